@@ -1,0 +1,7 @@
+-- Mark by mark.
+use mathlib.Core.Path.{fun-ext}
+use Rattle.bits.proofs.SingleBits.{bit-or}
+use Rattle.cells.proofs.flags.FlagsKind.join.Needs as need
+
+pub returns : need.returns
+returns c = fun-ext (λ m. bit-or (m .0) (c .args .self .0) (c .args .other .0))
