@@ -1,0 +1,15 @@
+pub mod Cells
+pub mod Meets
+pub mod Gathers
+pub mod Adjoint
+pub mod Galois
+pub mod Sheets
+pub mod HitLists
+pub mod Words
+pub mod Runs
+pub mod Maps
+pub mod GrayRows
+pub mod MaskCosts
+pub mod FlagRows
+pub mod Edges
+pub mod Hits
