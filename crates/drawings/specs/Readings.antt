@@ -3,6 +3,7 @@
 --     point-of o p       the point at the place p, seen from the origin's place o
 --     origin-read ms     the origin's place, or the first fault
 --     Reads ms r         r is an answer to the marks ms
+--     place-at d i       where a point of a drawing was drawn
 use mathlib.Core.Path.{_≡_}
 use mathlib.Core.Bool.{Bool, cond}
 use mathlib.Core.Logic.{_⊎_}
@@ -12,7 +13,10 @@ use lib.Dec.{ltb}
 use lib.IntN.{ℤ, pos, negℤ, _-ℤ_}
 use lib.ListN.{length, getD}
 use Rattle.std.specs.Numbers.{minZ, maxZ}
+use Rattle.std.specs.Finite.{nth}
 use Rattle.std.specs.Of.Vec.{vec-items}
+use Rattle.std.specs.Options.{mapped}
+use Rattle.std.specs.declared.option.Option.{Option}
 use Rattle.std.specs.declared.result.Result.{Result}
 use Rattle.std.specs.declared.result.Result.the-variants.{Ok, Err}
 use Rattle.std.specs.shelf.Lists.{kept-by, leading}
@@ -63,3 +67,7 @@ origin-read ms = cond (ltb (sign-front ms) (length ms)) (Err (OtherCharacter (ge
 abbrev pub Reads : List Mark → Result Drawing DrawingFault → Type 0
 Reads ms (Ok d) = (o : Place) × (origin-read ms ≡ Ok o) × (vec-items (d .dots) ≡ point-marks ms) × (vec-items (d .points) ≡ points-from ms o)
 Reads ms (Err f) = (f ≡ Memory) ⊎ (origin-read ms ≡ Err f)
+
+-- where the point at place i of the list was drawn
+abbrev pub place-at : Drawing → ℕ → Option Place
+place-at d i = mapped (λ m. m .place) (nth (vec-items (d .dots)) i)

@@ -8,11 +8,9 @@ ghost use Rattle.std.specs.Of.String.{string-bytes};
 ghost use Rattle.std.specs.Of.Vec.{vec-items};
 ghost use Rattle.std.specs.Results.{isOk};
 ghost use Rattle.std.specs.Vec.{made};
-ghost use Rattle.std.specs.Finite.{nth};
-ghost use Rattle.std.specs.Options.{mapped};
 ghost use Rattle.drawings.specs.declared.drawing.DrawingFault.the-variants.{Memory};
 ghost use Rattle.drawings.specs.Signs.{blank, is-sign, is-point, is-origin, line-marks, marks};
-ghost use Rattle.drawings.specs.Readings.{sign-front, origin-of, point-marks, point-of, offset, origin-read, Reads};
+ghost use Rattle.drawings.specs.Readings.{sign-front, origin-of, point-marks, point-of, offset, origin-read, place-at, Reads};
 use masks::point::Point;
 use std::alloc::AllocError;
 use std::alloc::Global;
@@ -80,7 +78,7 @@ impl Drawing {
 
     // Where the point at this place of the list was drawn.
     pub fn place(&self, i: usize) -> Option<Place>
-        ensures { λ r. ⌜ r ≡ mapped (λ m. m .place) (nth (vec-items (now (self .entry) .dots)) i) ⌝ }
+        ensures { λ r. ⌜ r ≡ place-at (now (self .entry)) i ⌝ }
     {
         if i < self.dots.len() {
             Some(self.dots[i].place)
