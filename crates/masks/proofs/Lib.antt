@@ -6,3 +6,4 @@ pub mod Runs
 pub mod Halving
 pub mod Capping
 pub mod Extremes
+pub mod CostBounds
