@@ -1,0 +1,9 @@
+mod Bests
+mod Entries
+mod Rooms
+mod Places
+mod Lines
+mod Picks
+mod Rings
+mod Erosions
+mod Verdicts

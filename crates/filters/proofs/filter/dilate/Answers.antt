@@ -1,0 +1,24 @@
+-- The plan is that of the turned mask, so the sheet is the one that the verdict gives.
+use mathlib.Core.Path.{refl, _∙_}
+use mathlib.Core.List.{map}
+use lib.ListN.{length}
+use Rattle.masks.specs.Points.{turned}
+use Rattle.morphology.specs.Filters.{points-of}
+use Rattle.sheets.specs.Sheet.{shown}
+use Rattle.filters.proofs.Verdicts.{dilated-verdict}
+use Rattle.filters.proofs.filter.dilate.Needs as need
+
+pub filter-requires : need.filter-requires
+filter-requires g c κs = c .of-turned .ensures .sound
+
+pub returns : need.returns
+returns g c =
+    let m = c .args .mask .now in
+    let s = g .H·Holder .sheet (c .args .holder .now) in
+    let P = c .of-turned .ensures in
+    record {
+      answer = c .filter .ensures .answer m (map turned (points-of m)) P;
+      after = c .filter .ensures .after m (map turned (points-of m)) P ∙ dilated-verdict (g .Cell·Kind .lattice) m (shown (g .Cell·Kind .means) s) s (length (c .args .table .now));
+      refused = c .filter .ensures .refused m (map turned (points-of m)) P;
+      table = c .filter .kept .table;
+    }

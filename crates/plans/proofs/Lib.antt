@@ -1,0 +1,5 @@
+mod Finds
+mod Extents
+mod MaskChords
+mod MaskPlans
+mod TurnedPlans

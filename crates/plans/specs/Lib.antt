@@ -1,0 +1,3 @@
+-- Read in this order.
+pub mod Plan
+pub mod Placed
