@@ -1,7 +1,10 @@
 // Erosion and dilation of a sheet under a mask, in place, by a chord table that the caller lends.
 
+// Erosion and dilation of a holder's sheet.
+pub mod filter;
+
 // The two sides of a lattice: what is picked, and what stands where there is no cell.
-pub mod side;
+mod side;
 
 // The lines of the table.
 mod line;
@@ -11,6 +14,5 @@ mod row;
 
 // The sweep over a sheet.
 mod sweep;
-
-// Erosion and dilation of a holder's sheet.
-pub mod filter;
+#[cfg(test)]
+mod tests;

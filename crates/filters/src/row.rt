@@ -7,13 +7,12 @@ ghost use lib.ListN.{length};
 ghost use Rattle.std.specs.Options.{mapped};
 ghost use Rattle.std.specs.declared.option.Option.the-variants.{Some};
 ghost use Rattle.sheets.specs.Sheet.{has};
-ghost use Rattle.plans.specs.Plan.{Within, Sound};
+ghost use Rattle.plans.specs.Plan.{chord-of, Sound};
 ghost use Rattle.filters.specs.Side.{side};
-ghost use Rattle.filters.specs.Row.{base-of, run-of, picked};
+ghost use Rattle.filters.specs.Row.{slot-of, base-of, run-of, picked};
 use crate::side::Side;
 use cells::kind::Kind;
 use plans::plan::Plan;
-use plans::plan::PlannedChord;
 use sheets::holder::Holder;
 
 // Makes row `y` of the sheet the pick over the chords at each column, and answers the picks made. The row is gathered in an
@@ -29,6 +28,7 @@ pub(crate) fn combine<H: Holder, S: Side>(
 where
     H::Cell: Kind,
     requires sizes { ⌜ w ≤ 2048 ⌝ ∗ ⌜ oldest < now plan .rows ⌝ ∗ ⌜ now plan .rows * now plan .sizes * (w + 30) ≤ length (now table) ⌝ }
+    requires some { ⌜ 1 ≤ w ⌝ }
     requires on { ⌜ ((x : ℕ) → x < w → has (H·Holder .sheet (now h)) x y ≡ true) ⌝ }
     requires plan { ⌜ Sound (now plan) ⌝ }
     ensures picks { λ r. ⌜ r ≡ w * (now (plan .entry) .count - 1) ⌝ }
@@ -39,13 +39,13 @@ where
     ensures rest { λ _. ⌜ ((i j : ℕ) → j ≢ y → H·Holder .sheet (now (h .exit)) .cell i j ≡ H·Holder .sheet (now (h .entry)) .cell i j) ⌝ }
 {
     let mut row = [S::pad::<H::Cell>(); 2048];
-    let first = base(plan.rows, plan.sizes, w + 30, oldest, plan.chords[0]);
+    let first = base(plan, w, oldest, 0);
     for i in 0..w {
         row[i] = table[first + i];
     }
     let mut picks = 0;
     for k in 1..plan.count {
-        let from = base(plan.rows, plan.sizes, w + 30, oldest, plan.chords[k]);
+        let from = base(plan, w, oldest, k);
         for x in 0..w {
             row[x] = S::pick(row[x], table[from + x]);
             picks += 1;
@@ -57,17 +57,26 @@ where
     picks
 }
 
-// Where the run of a chord for column 0 stands in the table.
-fn base(rows: usize, sizes: usize, stride: usize, oldest: usize, c: PlannedChord) -> usize
-    requires sizes { ⌜ oldest < rows ⌝ ∗ ⌜ rows ≤ 31 ⌝ ∗ ⌜ sizes ≤ 31 ⌝ ∗ ⌜ stride ≤ 2078 ⌝ }
-    requires chord { ⌜ Within rows sizes c ⌝ }
-    ensures place { λ r. ⌜ r ≡ base-of rows sizes stride oldest c ⌝ }
-    ensures room { λ r. ⌜ r + stride ≤ rows * sizes * stride + 30 ⌝ }
+// Where the run of chord `q` for column 0 stands in the table.
+fn base(plan: &Plan, w: usize, oldest: usize, q: usize) -> usize
+    requires sizes { ⌜ w ≤ 2048 ⌝ ∗ ⌜ oldest < now plan .rows ⌝ ∗ ⌜ q < now plan .count ⌝ }
+    requires plan { ⌜ Sound (now plan) ⌝ }
+    ensures place { λ r. ⌜ r ≡ base-of (now (plan .entry) .rows) (now (plan .entry) .sizes) (w + 30) oldest (chord-of (now (plan .entry)) q) ⌝ }
+    ensures room { λ r. ⌜ r + (w + 30) ≤ now (plan .entry) .rows * now (plan .entry) .sizes * (w + 30) + 30 ⌝ }
 {
-    let slot = if oldest + c.row < rows {
-        oldest + c.row
+    let c = plan.chords[q];
+    (slot(plan.rows, oldest, c.row) * plan.sizes + c.index) * (w + 30) + c.column
+}
+
+// The slot of the ring that has row `r` of the mask.
+fn slot(rows: usize, oldest: usize, r: usize) -> usize
+    requires { ⌜ oldest < rows ⌝ ∗ ⌜ r < rows ⌝ ∗ ⌜ rows ≤ 31 ⌝ }
+    ensures answer { λ s. ⌜ s ≡ slot-of rows oldest r ⌝ }
+    ensures below { λ s. ⌜ s < rows ⌝ }
+{
+    if oldest + r < rows {
+        oldest + r
     } else {
-        oldest + c.row - rows
-    };
-    (slot * sizes + c.index) * stride + c.column
+        oldest + r - rows
+    }
 }

@@ -27,7 +27,8 @@ pub(crate) fn erode_side<H: Holder, S: Side>(
 ) -> u64
 where
     H::Cell: Kind,
-    requires size { ⌜ w ≤ 2048 ⌝ ∗ ⌜ 1 ≤ height ⌝ ∗ ⌜ height ≤ 2048 ⌝ ∗ ⌜ w ≡ H·Holder .sheet (now h) .width ⌝ ∗ ⌜ height ≡ H·Holder .sheet (now h) .height ⌝ }
+    requires size { ⌜ w ≤ 2048 ⌝ ∗ ⌜ height ≤ 2048 ⌝ ∗ ⌜ w ≡ H·Holder .sheet (now h) .width ⌝ ∗ ⌜ height ≡ H·Holder .sheet (now h) .height ⌝ }
+    requires some { ⌜ 1 ≤ w ⌝ ∗ ⌜ 1 ≤ height ⌝ }
     requires whole { ⌜ Whole (H·Holder .sheet (now h)) ⌝ }
     requires room { ⌜ now plan .rows * now plan .sizes * (w + 30) ≤ length (now table) ⌝ }
     requires plan { ⌜ Sound (now plan) ⌝ }
@@ -48,7 +49,8 @@ fn sweep<H: Holder, S: Side>(
 ) -> u64
 where
     H::Cell: Kind,
-    requires size { ⌜ w ≤ 2048 ⌝ ∗ ⌜ 1 ≤ height ⌝ ∗ ⌜ height ≤ 2048 ⌝ ∗ ⌜ w ≡ H·Holder .sheet (now h) .width ⌝ ∗ ⌜ height ≡ H·Holder .sheet (now h) .height ⌝ }
+    requires size { ⌜ w ≤ 2048 ⌝ ∗ ⌜ height ≤ 2048 ⌝ ∗ ⌜ w ≡ H·Holder .sheet (now h) .width ⌝ ∗ ⌜ height ≡ H·Holder .sheet (now h) .height ⌝ }
+    requires some { ⌜ 1 ≤ w ⌝ ∗ ⌜ 1 ≤ height ⌝ }
     requires whole { ⌜ Whole (H·Holder .sheet (now h)) ⌝ }
     requires room { ⌜ now plan .rows * now plan .sizes * (w + 30) ≤ length (now table) ⌝ }
     requires plan { ⌜ Sound (now plan) ⌝ }

@@ -14,8 +14,8 @@ returns g c =
     let s = g .H·Holder .sheet (c .args .h .now) in
     let t = g .H·Holder .sheet (c .sweep .last .h) in
     let M : Mixed k f p (s .width) s t (s .height) =
-    subst (λ (n : ℕ). Mixed k f p (s .width) s t n) (c .pre .size .1 .1 .1 .1)
-    (subst (λ (n : ℕ). Mixed k f p n s t (c .args .height)) (c .pre .size .1 .1 .1 .0) (c .sweep .ensures .result)) in
+    subst (λ (n : ℕ). Mixed k f p (s .width) s t n) (c .pre .size .1 .1 .1)
+    (subst (λ (n : ℕ). Mixed k f p n s t (c .args .height)) (c .pre .size .1 .1 .0) (c .sweep .ensures .result)) in
     record {
       picks = c .sweep .ensures .picks;
       after = λ ps P. mixed-eroded k f p s t ps M (c .pre .whole) P;

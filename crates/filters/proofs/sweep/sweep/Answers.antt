@@ -28,7 +28,7 @@ combine-picks-requires g c κs =
     let t = g .H·Holder .sheet (c .loop-line .h) in
     let y = c .loop-line .line + 1 - p .rows in
     let o = c .pre .plan .origin in
-    let M : Mixed k f p (s .width) s t y = subst (λ (n : ℕ). Mixed k f p n s t y) (c .pre .size .1 .1 .1 .0) (c .loop-line .inv .3) in
+    let M : Mixed k f p (s .width) s t y = subst (λ (n : ℕ). Mixed k f p n s t y) (c .pre .size .1 .1 .0) (c .loop-line .inv .3) in
     record {
       sizes = (
         search needs,
@@ -37,6 +37,7 @@ combine-picks-requires g c κs =
           omega (arith, c .pre .room, c .loop-line .kept .table, c .take-line-picks .kept .table),
         ),
       );
+      some = c .pre .some .0;
       on = λ x h. row-has k f p s t y x (c .pre .whole) M (omega (arith, o)) (omega arith);
       plan = c .pre .plan;
     }
