@@ -1,9 +1,9 @@
 -- A sheet all of whose rows are results is the erosion.
 use mathlib.Core.Path.{_≡_, refl, sym, _∙_, ap, subst}
 use mathlib.Core.List.{List, map}
-use mathlib.Core.Bool.{Bool, true, false}
+use mathlib.Core.Bool.{true, false}
 use mathlib.Core.Logic.{inl, inr}
-use Prim.Native.Nat.{ℕ, _+_, _-_, _<_, _≤_}
+use Prim.Native.Nat.{ℕ, _+_, _-_, _<_}
 use native.Mathlib.Omega.{arith}
 use lib.IntN.{ℤ, pos, negsuc, _+ℤ_}
 use Rattle.std.specs.Options.{isSome, mapped}
@@ -12,7 +12,7 @@ use Rattle.std.specs.declared.option.Option.the-variants.{Some, None}
 use Rattle.std.proofs.shelf.Tests.{cases-lt}
 use Rattle.std.proofs.shelf.Ways.{tells}
 use Rattle.std.proofs.shelf.Signed.{ints}
-use Rattle.cells.specs.Lattice.{Lattice, Under}
+use Rattle.cells.specs.Lattice.{Lattice}
 use Rattle.masks.specs.Points.{Among}
 use Rattle.masks.specs.declared.point.Point.{Point}
 use Rattle.sheets.specs.Sheet.{Sheet, has, Whole, shown}

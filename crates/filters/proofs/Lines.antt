@@ -1,7 +1,7 @@
 -- The lines of the table, length by length.
 use mathlib.Core.Path.{_≡_, refl, sym, _∙_, ap, subst}
-use mathlib.Core.List.{List, [], _∷_, _++_}
-use Prim.Native.Nat.{ℕ, zero, suc, _+_, _*_, _-_, _<_, _≤_}
+use mathlib.Core.List.{List, [], _∷_}
+use Prim.Native.Nat.{ℕ, _+_, _*_, _-_, _<_, _≤_}
 use native.Mathlib.Omega.{arith}
 use borrow.Author.Count.{below-more}
 use lib.ListN.{length, getD, take, drop}
@@ -15,7 +15,6 @@ use Rattle.masks.specs.Cost.{line-picks}
 use Rattle.sheets.specs.Sheet.{Sheet}
 use Rattle.plans.specs.declared.plan.Plan.{Plan}
 use Rattle.plans.specs.Plan.{Sound, length-of}
-use Rattle.filters.specs.Side.{Best}
 use Rattle.filters.specs.Line.{or-else, place, UnderAt, held, Runs, Holds}
 use Rattle.filters.proofs.Bests.{best-same, best-one, best-at, best-runs}
 use Rattle.filters.proofs.Rooms.{part-room}
@@ -67,11 +66,11 @@ runs-same k f G G′ p w t start n to from R i h c l =
     best-same k _ _ _ (λ a g j m. to (c + j) a (omega arith) (g j m)) (λ a g j m. from (c + j) a (omega arith) (g j m)) (R i h c l)
 
 -- under the pad, where a place has no cell
-pub under-else : {K C : Type 0} (k : Lattice C) (f : K → C) (a : C) (o : Option K) → Under k a (or-else f (k .greatest) o) → UnderAt k f a o
+under-else : {K C : Type 0} (k : Lattice C) (f : K → C) (a : C) (o : Option K) → Under k a (or-else f (k .greatest) o) → UnderAt k f a o
 under-else k f a None u = tt
 under-else k f a (Some c) u = u
 
-pub else-under : {K C : Type 0} (k : Lattice C) (f : K → C) (a : C) (o : Option K) → UnderAt k f a o → Under k a (or-else f (k .greatest) o)
+else-under : {K C : Type 0} (k : Lattice C) (f : K → C) (a : C) (o : Option K) → UnderAt k f a o → Under k a (or-else f (k .greatest) o)
 else-under k f a None u = k .meet-greatest a
 else-under k f a (Some c) u = u
 

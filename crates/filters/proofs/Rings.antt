@@ -1,7 +1,7 @@
 -- The ring of lines, and the sheet row by row.
-use mathlib.Core.Path.{_≡_, refl, sym, _∙_, ap, subst}
+use mathlib.Core.Path.{_≡_, sym, _∙_, ap, subst}
 use mathlib.Core.List.{List}
-use mathlib.Core.Bool.{Bool, true, cond, _||_}
+use mathlib.Core.Bool.{true, cond, _||_}
 use mathlib.Core.Logic.{inl, inr, _≢_}
 use Prim.Native.Nat.{ℕ, _+_, _*_, _-_, _<_, _≤_}
 use lib.Dec.{ltb}
@@ -26,7 +26,7 @@ use Rattle.filters.proofs.Rooms.{part-room, slot-room}
 use Rattle.filters.proofs.Lines.{runs-same}
 
 -- lines that no write touched
-pub holds-kept : {K C : Type 0} (k : Lattice C) (f : K → C) (s : Sheet K) (p : Plan) (w : ℕ) (old new : List K) (start l : ℕ) → Sound p →
+holds-kept : {K C : Type 0} (k : Lattice C) (f : K → C) (s : Sheet K) (p : Plan) (w : ℕ) (old new : List K) (start l : ℕ) → Sound p →
     ((x : ℕ) → start ≤ x → x < start + p .sizes * (w + 30) → held k f new x ≡ held k f old x) → Holds k f s p w old start l → Holds k f s p w new start l
 holds-kept k f s p w old new start l r kept H i h c m =
     let room = part-room i (p .sizes) (w + 30) h in
@@ -41,13 +41,13 @@ holds-sheet {K} k f s t p w table start l y left h =
     (λ x a _ u. subst (UnderAt k f a) (ap (λ (o : Option K). cond (ltb x 15 || ltb l (p .above)) None o) (left (x - 15) (l - p .above) h)) u)
     (λ x a _ u. subst (UnderAt k f a) (sym (ap (λ (o : Option K). cond (ltb x 15 || ltb l (p .above)) None o) (left (x - 15) (l - p .above) h))) u)
 
-pub slot-turn : (rows slot r : ℕ) → slot < rows → r < rows → 1 ≤ r → slot-of rows (next-slot rows slot) (r - 1) ≡ slot-of rows slot r
+slot-turn : (rows slot r : ℕ) → slot < rows → r < rows → 1 ≤ r → slot-of rows (next-slot rows slot) (r - 1) ≡ slot-of rows slot r
 slot-turn rows slot r a b d = grind (arith, tells)
 
-pub slot-newest : (rows slot r : ℕ) → slot < rows → r + 1 ≡ rows → slot-of rows (next-slot rows slot) r ≡ slot
+slot-newest : (rows slot r : ℕ) → slot < rows → r + 1 ≡ rows → slot-of rows (next-slot rows slot) r ≡ slot
 slot-newest rows slot r a b = grind (arith, tells)
 
-pub slot-apart : (rows slot r : ℕ) → slot < rows → r < rows → 1 ≤ r → slot-of rows slot r ≢ slot
+slot-apart : (rows slot r : ℕ) → slot < rows → r < rows → 1 ≤ r → slot-of rows slot r ≢ slot
 slot-apart rows slot r a b d = grind (arith, tells)
 
 -- a line more, in the place of the oldest
@@ -118,9 +118,6 @@ mixed-more {K} k f p w s t t′ y y′ e M ew eh here beside rest =
       left = λ x j h. let ne : j ≢ y = omega arith in rest x j ne ∙ M .left x j (omega arith);
       beside = λ x j h. beside x j h ∙ M .beside x j h;
     }
-
-pub mixed-none : {K C : Type 0} (k : Lattice C) (f : K → C) (p : Plan) (w : ℕ) (s : Sheet K) (y : ℕ) → y ≡ 0 → Mixed k f p w s s y
-mixed-none k f p w s y e = record { width = refl; height = refl; done = λ x j h l. absurd (omega arith); left = λ x j h. refl; beside = λ x j h. refl }
 
 pub slot-in : (rows slot : ℕ) → slot < rows → next-slot rows slot < rows
 slot-in rows slot h = grind (arith, tells)

@@ -6,7 +6,7 @@ use Prim.Native.Nat.{ℕ, _+_, _-_, _*_, _<_, _≤_}
 use native.Mathlib.Nat.{mul-comm, mul-assoc}
 use native.Mathlib.Omega.{arith}
 use lib.Dec.{ltb}
-use lib.ListN.{length, take}
+use lib.ListN.{take}
 use Rattle.std.specs.declared.result.Result.{Result}
 use Rattle.std.specs.declared.result.Result.the-variants.{Ok, Err}
 use Rattle.std.proofs.shelf.Tests.{lt-ltb, le-ltb}
@@ -30,7 +30,7 @@ use Rattle.plans.specs.Plan.{PlanOf}
 use Rattle.filters.specs.Calls.{verdict, eroded-by, WhereRefused}
 
 -- the table that the plan needs is the mask's
-pub plan-table : (ws : List ℕ) (ps : List Point) (p : Plan) (w : ℕ) → PlanOf ws ps p → p .rows * p .sizes * (w + 30) ≡ table-cells ws w
+plan-table : (ws : List ℕ) (ps : List Point) (p : Plan) (w : ℕ) → PlanOf ws ps p → p .rows * p .sizes * (w + 30) ≡ table-cells ws w
 unfolding table-cells
 plan-table ws ps p w P = ap₂ (λ (v n : ℕ). v * n * (w + 30)) (P .rows) (P .sizes)
 
@@ -48,9 +48,6 @@ plan-picks ws ps p w h P =
 module _ {C : Type 0} (s : Sheet C) (m : Mask) (n : ℕ) (ps : List Point) (p : Plan) (P : PlanOf (m .rows) ps p) where
   by-size : (b : Bool) → (fits (s .width) && fits (s .height)) ≡ b → verdict s m n ≡ cond b (by-table (s .width) m n) (Err (WrongSize (s .width) (s .height)))
   by-size b e = ap (λ (t : Bool). cond t (by-table (s .width) m n) (Err (WrongSize (s .width) (s .height)))) e
-
-  pub verdict-size : (fits (s .width) && fits (s .height)) ≡ false → verdict s m n ≡ Err (WrongSize (s .width) (s .height))
-  verdict-size e = by-size false e
 
   pub verdict-short : (fits (s .width) && fits (s .height)) ≡ true → n < p .rows * p .sizes * (s .width + 30) → verdict s m n ≡ Err (ShortTable (p .rows * p .sizes * (s .width + 30)) n)
   verdict-short e h =

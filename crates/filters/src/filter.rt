@@ -16,7 +16,7 @@ use crate::side::JoinsSide;
 use crate::side::Meets;
 use crate::side::MeetsSide;
 use crate::side::Side;
-use crate::sweep::erode_side;
+use crate::sweep::sweep;
 use cells::kind::Kind;
 use masks::mask::Mask;
 use morphology::refusal::Refusal;
@@ -70,7 +70,7 @@ where
     if table.len() < needs {
         return Err(Refusal::ShortTable(needs, table.len()));
     }
-    Ok(erode_side::<H, S>(holder, plan, table, size.width, size.height))
+    Ok(sweep::<H, S>(holder, plan, table, size.width, size.height))
 }
 
 // Whether a sheet of the size can be filtered: neither extent is 0 or above 2,048.

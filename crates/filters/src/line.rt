@@ -71,7 +71,28 @@ where
     for i in 0..15 {
         table[start + i] = pad;
     }
-    for x in 0..w + 15 {
+    read_cells(h, y, 0, w, pad, table, start);
+    read_cells(h, y, w, w + 15, pad, table, start);
+}
+
+// The columns of row `y` from `from` up to `to`. Where all of them lie on the sheet, or none does, the loop copies or fills.
+fn read_cells<H: Holder>(
+    h: &H,
+    y: usize,
+    from: usize,
+    to: usize,
+    pad: H::Cell,
+    table: &mut [H::Cell],
+    start: usize,
+)
+where
+    H::Cell: Kind,
+    requires { ⌜ from ≤ to ⌝ ∗ ⌜ start + (15 + to) ≤ length (now table) ⌝ }
+    ensures cells { λ _. ⌜ ((z : Cell·Kind .Cell) → ((i : ℕ) → i < 15 + from → cell-at (Cell·Kind .means) z (now (table .entry)) (start + i) ≡ padded (Cell·Kind .means) (Cell·Kind .means pad) (H·Holder .sheet (now (h .entry))) y i) → (i : ℕ) → i < 15 + to → cell-at (Cell·Kind .means) z (now (table .exit)) (start + i) ≡ padded (Cell·Kind .means) (Cell·Kind .means pad) (H·Holder .sheet (now (h .entry))) y i) ⌝ }
+    ensures before { λ _. ⌜ ((z : Cell·Kind .Cell) (x : ℕ) → x < start → cell-at (Cell·Kind .means) z (now (table .exit)) x ≡ cell-at (Cell·Kind .means) z (now (table .entry)) x) ⌝ }
+    ensures after { λ _. ⌜ ((z : Cell·Kind .Cell) (x : ℕ) → start + (15 + to) ≤ x → cell-at (Cell·Kind .means) z (now (table .exit)) x ≡ cell-at (Cell·Kind .means) z (now (table .entry)) x) ⌝ }
+{
+    for x in from..to {
         table[start + (15 + x)] = cell_or(h, x, y, pad);
     }
 }

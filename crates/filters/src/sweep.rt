@@ -1,7 +1,7 @@
 // The sweep over a sheet, which erodes it in place on one side of the lattice.
 ghost use mathlib.Core.Path.{_≡_};
 ghost use mathlib.Core.List.{List};
-ghost use Prim.Native.Nat.{ℕ, _≤_, _<_, _+_, _*_, _-_, _^_};
+ghost use Prim.Native.Nat.{_≤_, _<_, _+_, _*_, _-_};
 ghost use lib.ListN.{length, take};
 ghost use Rattle.masks.specs.Cost.{line-picks};
 ghost use Rattle.masks.specs.declared.point.Point.{Point};
@@ -9,7 +9,7 @@ ghost use Rattle.morphology.specs.Filters.{eroded};
 ghost use Rattle.sheets.specs.Sheet.{Whole, shown};
 ghost use Rattle.plans.specs.Plan.{Sound, Spells};
 ghost use Rattle.filters.specs.Side.{side};
-ghost use Rattle.filters.specs.Sweep.{Mixed, next-slot};
+ghost use Rattle.filters.specs.Sweep.{next-slot};
 use crate::line::take_line;
 use crate::row::combine;
 use crate::side::Side;
@@ -17,8 +17,10 @@ use cells::kind::Kind;
 use plans::plan::Plan;
 use sheets::holder::Holder;
 
-// Erodes the sheet in place on the side S, and answers the picks made.
-pub(crate) fn erode_side<H: Holder, S: Side>(
+// Erodes the sheet in place on the side S, and answers the picks made. The lines of the sheet are taken into a ring of V
+// slots, one after the other. Row y is written when the lines of all its chords are in the table; row y itself is one of
+// them, so it is not read again.
+pub(crate) fn sweep<H: Holder, S: Side>(
     h: &mut H,
     plan: &Plan,
     table: &mut [H::Cell],
@@ -34,28 +36,6 @@ where
     requires plan { ⌜ Sound (now plan) ⌝ }
     ensures picks { λ r. ⌜ r ≡ (height + now (plan .entry) .rows - 1) * line-picks w (take (now (plan .entry) .sizes) (now (plan .entry) .lengths)) + height * (w * (now (plan .entry) .count - 1)) ⌝ }
     ensures after { λ _. ⌜ ((ps : List Point) → Spells (now (plan .entry)) ps → shown (Cell·Kind .means) (H·Holder .sheet (now (h .exit))) ≡ eroded (side (S·Side .lower) (Cell·Kind .lattice)) ps (shown (Cell·Kind .means) (H·Holder .sheet (now (h .entry))))) ⌝ }
-{
-    sweep::<H, S>(h, plan, table, w, height)
-}
-
-// Takes the lines of the sheet into a ring of V slots, one after the other. Row y is written when the lines of all its
-// chords are in the table; row y itself is one of them, so it is not read again.
-fn sweep<H: Holder, S: Side>(
-    h: &mut H,
-    plan: &Plan,
-    table: &mut [H::Cell],
-    w: usize,
-    height: usize,
-) -> u64
-where
-    H::Cell: Kind,
-    requires size { ⌜ w ≤ 2048 ⌝ ∗ ⌜ height ≤ 2048 ⌝ ∗ ⌜ w ≡ H·Holder .sheet (now h) .width ⌝ ∗ ⌜ height ≡ H·Holder .sheet (now h) .height ⌝ }
-    requires some { ⌜ 1 ≤ w ⌝ ∗ ⌜ 1 ≤ height ⌝ }
-    requires whole { ⌜ Whole (H·Holder .sheet (now h)) ⌝ }
-    requires room { ⌜ now plan .rows * now plan .sizes * (w + 30) ≤ length (now table) ⌝ }
-    requires plan { ⌜ Sound (now plan) ⌝ }
-    ensures picks { λ r. ⌜ r ≡ (height + now (plan .entry) .rows - 1) * line-picks w (take (now (plan .entry) .sizes) (now (plan .entry) .lengths)) + height * (w * (now (plan .entry) .count - 1)) ⌝ }
-    ensures result { λ _. ⌜ Mixed (side (S·Side .lower) (Cell·Kind .lattice)) (Cell·Kind .means) (now (plan .entry)) w (H·Holder .sheet (now (h .entry))) (H·Holder .sheet (now (h .exit))) height ⌝ }
 {
     let mut picks = 0;
     let mut slot = 0;

@@ -1,5 +1,5 @@
 -- The rows that a mask spans: no chord lies further north or south.
-use mathlib.Core.Path.{_≡_, refl, sym, ap, subst}
+use mathlib.Core.Path.{_≡_, refl, ap}
 use mathlib.Core.List.{List, [], _∷_}
 use mathlib.Core.Logic.{inl, inr}
 use Prim.Native.Nat.{ℕ, _+_}
@@ -35,7 +35,7 @@ module _ {X : Type 0} (v : X → ℤ) where
   greatest-each (y ∷ xs) z x (inl e) = let r = greatest-start xs (maxZ z (v y)) in let q : v x ≡ v y = ap v e in omega (arith, ints, clamps, r, q)
   greatest-each (y ∷ xs) z x (inr i) = greatest-each xs (maxZ z (v y)) x i
 
-pub natural : (z : ℤ) → pos 0 ≤ℤ z → z ≡ pos (natAbs z)
+natural : (z : ℤ) → pos 0 ≤ℤ z → z ≡ pos (natAbs z)
 natural (pos n) h = refl
 natural (negsuc n) h = absurd (omega (arith, ints))
 

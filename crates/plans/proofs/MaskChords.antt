@@ -1,14 +1,13 @@
 -- What is known of the chords of a mask: where they lie, and which points they have.
-use mathlib.Core.Path.{_≡_, refl, sym, ap, subst, _∙_}
-use mathlib.Core.Bool.{true}
-use mathlib.Core.List.{List, []}
+use mathlib.Core.Path.{_≡_}
+use mathlib.Core.List.{List}
 use Prim.Native.Nat.{ℕ, _+_, _-_, _<_, _≤_}
 use native.Mathlib.Omega.{arith}
 use lib.IntN.{ℤ, pos, _+ℤ_, _-ℤ_}
 use Rattle.std.proofs.shelf.Signed.{ints}
 use Rattle.masks.specs.Points.{Among}
-use Rattle.masks.specs.Rows.{marked, holds, points}
-use Rattle.masks.specs.Chords.{chords, chord-at, run, Run}
+use Rattle.masks.specs.Rows.{points}
+use Rattle.masks.specs.Chords.{chords, chord-at, Run}
 use Rattle.masks.specs.declared.point.Point.{Point}
 use Rattle.masks.specs.declared.chord.Chord.{Chord}
 use Rattle.masks.proofs.Grids.{same-point, held-at, held-among, among-held, marked-column, marked-row}

@@ -5,7 +5,6 @@ use Prim.Native.Nat.{ℕ, _+_, _-_, _<_, _≤_}
 use native.Mathlib.Omega.{arith}
 use lib.IntN.{ℤ, pos, natAbs, _+ℤ_, _-ℤ_}
 use lib.ListN.{length, getD, take}
-use lib.Signed.{_≤ℤ_}
 use Rattle.std.specs.shelf.Lists.{All}
 use Rattle.std.proofs.shelf.Elements.{all-getD}
 use Rattle.std.proofs.shelf.Lists.{getD-take, getD-map}
@@ -15,7 +14,6 @@ use Rattle.masks.specs.Rows.{points}
 use Rattle.masks.specs.Chords.{chords}
 use Rattle.masks.specs.Lengths.{lengths, Serves}
 use Rattle.masks.specs.Cost.{spanned}
-use Rattle.masks.specs.declared.point.Point.{Point}
 use Rattle.masks.specs.declared.chord.Chord.{Chord}
 use Rattle.masks.proofs.Grids.{same-point}
 use Rattle.masks.proofs.Halving.{lengths-serve, lengths-short}
@@ -23,7 +21,7 @@ use Rattle.masks.proofs.Lists.{all-among}
 use Rattle.masks.proofs.Runs.{some-chord, chord-sizes}
 use Rattle.plans.specs.declared.plan.Plan.{Plan}
 use Rattle.plans.specs.declared.plan.PlannedChord.{PlannedChord}
-use Rattle.plans.specs.Plan.{chord-of, length-of, long, point-of, Within, Sound, Spells, PlanOf}
+use Rattle.plans.specs.Plan.{chord-of, length-of, long, point-of, Sound, Spells, PlanOf}
 use Rattle.plans.specs.Placed.{InGrid, From, index-of, planned}
 use Rattle.plans.proofs.Finds.{getD-among, among-getD, index-found, climbs-at, climbs-low}
 use Rattle.plans.proofs.Extents.{north, last-row}

@@ -1,9 +1,8 @@
 -- A plan turned about the origin: as many rows and chords, the same lengths, the turned points.
 use mathlib.Core.Path.{_≡_, sym, ap, subst, _∙_}
 use mathlib.Core.List.{List, map}
-use Prim.Native.Nat.{ℕ, _+_, _-_, _<_, _≤_}
+use Prim.Native.Nat.{ℕ, _+_, _-_, _<_}
 use native.Mathlib.Omega.{arith}
-use lib.IntN.{ℤ, pos, negℤ, _-ℤ_}
 use lib.ListN.{getD}
 use Rattle.std.proofs.shelf.Signed.{ints}
 use Rattle.masks.specs.Points.{Among, turned}

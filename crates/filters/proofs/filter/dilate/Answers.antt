@@ -1,5 +1,5 @@
 -- The plan is that of the turned mask, so the sheet is the one that the verdict gives.
-use mathlib.Core.Path.{refl, _∙_}
+use mathlib.Core.Path.{_∙_}
 use mathlib.Core.List.{map}
 use lib.ListN.{length}
 use Rattle.masks.specs.Points.{turned}

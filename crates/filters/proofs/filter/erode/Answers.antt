@@ -1,5 +1,5 @@
 -- The plan is the mask's, so the sheet is the one that the verdict gives.
-use mathlib.Core.Path.{refl, _∙_}
+use mathlib.Core.Path.{_∙_}
 use lib.ListN.{length}
 use Rattle.morphology.specs.Filters.{points-of}
 use Rattle.sheets.specs.Sheet.{shown}

@@ -4,7 +4,7 @@ use mathlib.Core.Bool.{true, _&&_}
 use Prim.Native.Nat.{ℕ, _+_, _-_, _*_, _<_, _≤_}
 use lib.ListN.{length, take}
 use Rattle.std.specs.declared.result.Result.the-variants.{Ok, Err}
-use Rattle.masks.specs.Cost.{line-picks, filter-picks}
+use Rattle.masks.specs.Cost.{line-picks}
 use Rattle.morphology.specs.Refusals.{fits}
 use Rattle.morphology.specs.declared.refusal.Refusal.the-variants.{ShortTable}
 use Rattle.filters.specs.Side.{side}
@@ -47,14 +47,14 @@ returns g c =
     let fit : (fits (s .width) && fits (s .height)) ≡ true =
     sym (ap₂ (λ (a b : ℕ). fits a && fits b) ew eh) ∙ sym (c .if-not-can-filter .ensures tt) in
     let room : p .rows * p .sizes * (s .width + 30) ≤ n = subst (λ (w : ℕ). p .rows * p .sizes * (w + 30) ≤ n) ew (c .if-table-needs .left) in
-    let picks = c .erode-side .ensures .picks
+    let picks = c .sweep .ensures .picks
     ∙ ap₂ (λ (w h : ℕ). (h + p .rows - 1) * line-picks w (take (p .sizes) (p .lengths)) + h * (w * (p .count - 1))) ew eh in
     record {
       answer = λ m ps P.
           ap (λ (r : ℕ). Ok r) (picks ∙ plan-picks (m .rows) ps p (s .width) (s .height) P)
           ∙ sym (ap (λ v. answer-by v (s .width) (s .height)) (verdict-ok s m n ps p P fit room));
       after = λ m ps P.
-          c .erode-side .ensures .after ps (P .points)
+          c .sweep .ensures .after ps (P .points)
           ∙ sym (ap (λ v. eroded-by v k ps (shown f s)) (verdict-ok s m n ps p P fit room));
       refused = λ m ps P. refused-not (verdict s m n) m _ (verdict-ok s m n ps p P fit room);
     }

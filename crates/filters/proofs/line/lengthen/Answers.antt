@@ -1,7 +1,7 @@
 -- One run more: it is written at to + x, and the two that it is picked from lie before `to`.
 use borrow.Author.Count.{below-more}
 use native.Mathlib.Omega.{arith}
-use mathlib.Core.Path.{_≡_, _∙_}
+use mathlib.Core.Path.{_∙_}
 use mathlib.Core.Logic.{_≢_}
 use Prim.Native.Nat.{_<_, _≤_, _+_}
 use lib.ListN.{length}

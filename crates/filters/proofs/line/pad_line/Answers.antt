@@ -1,7 +1,7 @@
 -- One entry more is padding.
 use native.Mathlib.Omega.{arith}
 use mathlib.Core.Path.{refl}
-use Prim.Native.Nat.{ℕ, _<_, _+_}
+use Prim.Native.Nat.{_<_, _+_}
 use lib.ListN.{length}
 use Rattle.filters.proofs.Entries.{line-more, below-kept, above-kept}
 use Rattle.filters.proofs.line.pad_line.Needs as need

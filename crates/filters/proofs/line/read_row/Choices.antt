@@ -10,9 +10,3 @@ Inv-loop-i g l =
     ((z : g .Cell·Kind .Cell) (k : ℕ) → k < l .i → cell-at (g .Cell·Kind .means) z (l .table) (l .start + k) ≡ padded (g .Cell·Kind .means) (g .Cell·Kind .means (l .pad)) (g .H·Holder .sheet (l .h)) (l .y) k) ×
     ((z : g .Cell·Kind .Cell) (k : ℕ) → k < l .start → cell-at (g .Cell·Kind .means) z (l .table) k ≡ cell-at (g .Cell·Kind .means) z (l .entry .table) k) ×
     ((z : g .Cell·Kind .Cell) (k : ℕ) → l .start + l .i ≤ k → cell-at (g .Cell·Kind .means) z (l .table) k ≡ cell-at (g .Cell·Kind .means) z (l .entry .table) k)
-
-abbrev pub Inv-loop-x : given.InvT-loop-x
-Inv-loop-x g l =
-    ((z : g .Cell·Kind .Cell) (k : ℕ) → k < 15 + l .x → cell-at (g .Cell·Kind .means) z (l .table) (l .start + k) ≡ padded (g .Cell·Kind .means) (g .Cell·Kind .means (l .pad)) (g .H·Holder .sheet (l .h)) (l .y) k) ×
-    ((z : g .Cell·Kind .Cell) (k : ℕ) → k < l .start → cell-at (g .Cell·Kind .means) z (l .table) k ≡ cell-at (g .Cell·Kind .means) z (l .entry .table) k) ×
-    ((z : g .Cell·Kind .Cell) (k : ℕ) → l .start + (15 + l .x) ≤ k → cell-at (g .Cell·Kind .means) z (l .table) k ≡ cell-at (g .Cell·Kind .means) z (l .entry .table) k)

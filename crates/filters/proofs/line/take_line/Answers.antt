@@ -1,7 +1,7 @@
 -- The runs are built over the single cells that were loaded, so they are runs of the line's cells.
-use mathlib.Core.Path.{_≡_, _∙_, ap, subst}
+use mathlib.Core.Path.{_∙_, ap}
 use native.Mathlib.Omega.{arith}
-use Prim.Native.Nat.{ℕ, _<_, _≤_, _+_}
+use Prim.Native.Nat.{_+_}
 use Rattle.filters.specs.Side.{side}
 use Rattle.filters.specs.Line.{or-else, place}
 use Rattle.filters.proofs.Rooms.{part-room}

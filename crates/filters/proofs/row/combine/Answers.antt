@@ -63,6 +63,7 @@ loop-j-again g c =
     let s = g .H·Holder .sheet (c .loop-j .h) in
     let v = getD (c .loop-k .row) (c .loop-j .j) (c .index-row-j .result) in
     let after : g .H·Holder .sheet (c .put .last .self) ≡ put-at s (c .loop-j .j) (c .args .y) v = c .put .ensures .after in
+    let in-row : c .loop-j .j < c .args .w = omega arith in
     let lt : c .loop-j .j < length (c .loop-k .row) = omega arith in (
       ap (λ (t : Sheet (g .H·Cell .Denot)). t .width) after ∙ c .loop-j .inv .0,
       ap (λ (t : Sheet (g .H·Cell .Denot)). t .height) after ∙ c .loop-j .inv .1,
@@ -72,7 +73,7 @@ loop-j-again g c =
           ∙ ap (mapped f) (put-column s (c .loop-j .j) (c .args .y) v k (c .args .y) ne)
           ∙ c .loop-j .inv .2 z k h)
           (ap (λ (t : Sheet (g .H·Cell .Denot)). mapped f (t .cell (c .loop-j .j) (c .args .y))) after
-          ∙ ap (mapped f) (put-here s (c .loop-j .j) (c .args .y) v (c .loop-j .inv .5 (c .loop-j .j) (c .loop-j-test .taken)))
+          ∙ ap (mapped f) (put-here s (c .loop-j .j) (c .args .y) v (c .loop-j .inv .5 (c .loop-j .j) in-row))
           ∙ ap (λ (v : g .Cell·Kind .Cell). Some v) (ap f (sym (c .index-row-j .is))
           ∙ sym (at-read f z (c .loop-k .row) (c .loop-j .j) (c .index-row-j .result) lt (c .index-row-j .is)))),
       λ i j h. let ne : i ≢ c .loop-j .j = omega arith in ap (λ (t : Sheet (g .H·Cell .Denot)). t .cell i j) after ∙ put-column s (c .loop-j .j) (c .args .y) v i j ne ∙ c .loop-j .inv .3 i j h,

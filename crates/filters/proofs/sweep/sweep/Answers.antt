@@ -1,14 +1,15 @@
--- A line more stands in the ring; where the ring is full, a row more is a result.
+-- A line more stands in the ring; where the ring is full, a row more is a result. When all rows are, the sheet is the erosion.
 use borrow.Author.Needs.{needs}
 use native.Mathlib.Omega.{arith}
 use native.Mathlib.Nat.{mul-le-mul}
-use mathlib.Core.Path.{_≡_, _∙_, sym, ap, subst, refl}
+use mathlib.Core.Path.{_≡_, _∙_, sym, ap, ap₂, subst, refl}
 use Prim.Native.Nat.{ℕ, _≤_, _<_, _+_, _*_, _-_}
 use lib.ListN.{take}
 use Rattle.masks.specs.Cost.{line-picks}
 use Rattle.filters.specs.Side.{side}
 use Rattle.filters.specs.Row.{picked, run-of}
 use Rattle.filters.specs.Sweep.{Mixed, Ring, next-slot}
+use Rattle.filters.proofs.Erosions.{mixed-eroded}
 use Rattle.filters.proofs.Rooms.{slot-room, times-more}
 use Rattle.filters.proofs.Rings.{holds-sheet, ring-more, through-best, mixed-more, slot-in, row-has}
 use Rattle.filters.proofs.sweep.sweep.Needs as need
@@ -96,3 +97,25 @@ loop-line-again g c =
       ],
       ring,
     )
+
+pub returns : need.returns
+returns g c =
+    let k = side (g .S·Side .lower) (g .Cell·Kind .lattice) in
+    let f = g .Cell·Kind .means in
+    let p = c .args .plan .now in
+    let w = c .args .w in
+    let s = g .H·Holder .sheet (c .args .h .now) in
+    let t = g .H·Holder .sheet (c .loop-line .h) in
+    let over = c .pre .plan .origin in
+    let ew = c .pre .size .1 .1 .0 in
+    let eh = c .pre .size .1 .1 .1 in
+    let end : c .loop-line .line ≡ c .args .height + p .rows - 1 = omega (arith, c .loop-line .kept .line-end) in
+    let done : c .loop-line .line + 1 - p .rows ≡ c .args .height = omega (arith, over) in
+    let M : Mixed k f p (s .width) s t (s .height) =
+    subst (λ (n : ℕ). Mixed k f p n s t (s .height)) ew (subst (Mixed k f p w s t) (done ∙ eh) (c .loop-line .inv .3)) in
+    record {
+      picks =
+          c .loop-line .inv .2
+          ∙ ap₂ (λ (l y : ℕ). l * line-picks w (take (p .sizes) (p .lengths)) + y * (w * (p .count - 1))) end done;
+      after = λ ps P. mixed-eroded k f p s t ps M (c .pre .whole) P;
+    }

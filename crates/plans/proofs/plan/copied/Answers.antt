@@ -4,7 +4,7 @@ use mathlib.Core.List.{List, [], _∷_, _++_}
 use Prim.Native.Nat.{ℕ, _<_, _+_}
 use native.Mathlib.Omega.{arith}
 use lib.ListN.{length, take, getD, length-set}
-use Rattle.std.proofs.shelf.Lists.{take-more, take-more-set, take-all, getD-default}
+use Rattle.std.proofs.shelf.Lists.{take-more, take-more-set, take-all}
 use Rattle.plans.proofs.plan.copied.Needs as need
 
 pub loop-i-again : need.loop-i-again

@@ -1,6 +1,6 @@
 -- The front is as long as the loop went, and ends at the length that was looked for.
-use mathlib.Core.Path.{_≡_, sym, ap}
-use mathlib.Core.Bool.{Bool, not, true, false}
+use mathlib.Core.Path.{_≡_, ap}
+use mathlib.Core.Bool.{not, true, false}
 use native.Mathlib.Omega.{arith}
 use lib.Dec.{eqb}
 use lib.ListN.{getD}

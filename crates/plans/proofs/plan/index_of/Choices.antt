@@ -1,8 +1,6 @@
 -- None of the lengths passed is the given one.
 use mathlib.Core.Path.{_≡_}
-use mathlib.Core.Bool.{not}
 use Prim.Native.Nat.{_+_}
-use lib.Dec.{eqb}
 use lib.ListN.{drop}
 use Rattle.plans.specs.Placed.{index-of}
 use Rattle.plans.proofs.plan.index_of.Given as given
