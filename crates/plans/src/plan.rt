@@ -1,7 +1,7 @@
 // The plan of a filter under a mask.
 ghost use mathlib.Core.Path.{_≡_};
 ghost use mathlib.Core.List.{map};
-ghost use Prim.Native.Nat.{ℕ, _+_, _≤_, _<_};
+ghost use Prim.Native.Nat.{ℕ, _+_, _-_, _≤_, _<_};
 ghost use lib.IntN.{pos, _+ℤ_};
 ghost use lib.ListN.{length, take, getD};
 ghost use Rattle.std.specs.Numbers.{minZ};
@@ -93,11 +93,20 @@ fn turned_chords(plan: &Plan) -> [PlannedChord; 496]
         let c = plan.chords[q];
         out[q] = PlannedChord {
             row: plan.rows - 1 - c.row,
-            column: 31 - c.column - plan.lengths[c.index],
+            column: turned_column(c.column, plan.lengths[c.index]),
             index: c.index,
         };
     }
     out
+}
+
+// The first column of a run on the other side of the origin: the offset of its last point, negated. Columns count from -15.
+fn turned_column(column: usize, length: usize) -> usize
+    requires { ⌜ 1 ≤ length ⌝ ∗ ⌜ column + length ≤ 31 ⌝ }
+    ensures { λ r. ⌜ r ≡ 31 - column - length ⌝ }
+{
+    let last = (column + length - 1) as i32 - 15;
+    (-last + 15) as usize
 }
 
 // The northmost row of the chords and the origin, counted from -15.
