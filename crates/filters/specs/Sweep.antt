@@ -5,7 +5,7 @@
 --     SameFrom y s t                the sheets s and t are the same from row y on
 --     Mixed k f p w s t y           the rows of t before y are results, the others are those of s
 --     next_slot rows slot           the slot after a slot of the ring
---     Ring k f z s p w t slot line n  the last n lines before `line` stand in the ring, the next of which is `slot`
+--     Ring k f z s p w t slot line n  the last n lines before `line` stand in the ring, and `line` is due at `slot`
 --     Gathered k f z s p w t start y  from start on, the table has what the chords show in row y
 use Rattle.std.specs.Prelude.{◌≡◌, ℕ, ◌+◌, ◌-◌, ◌*◌, ◌<◌, ◌≤◌, cond, List, Some, Option, nat_lt}
 use Rattle.std.specs.Option.{option_map}

@@ -23,7 +23,7 @@ use std::test::Fail;
 // A row of three cells, and what the filters make of it under the pair.
 #[derive(Clone, Copy)]
 struct Example<C> {
-    loaded: [C; 3],
+    row: [C; 3],
     eroded: [C; 3],
     dilated: [C; 3],
 }
@@ -56,86 +56,87 @@ where
     }
 }
 
-// Erodes the example's row under the pair.
+// Erodes a row of three cells under the pair.
 fn erodes<H: Holder>(
     rt: &impl Abort,
     holder: &mut H,
     table: &mut [H::Cell],
-    example: Example<H::Cell>,
+    wanted: [H::Cell; 3],
 ) -> Result<(), Fail>
 where
     H::Cell: Kind + PartialEq + Debug,
 {
-    load(rt, holder, example.loaded);
     assert_eq!(rt; erode(holder, &pair()?, table), Ok(32));
-    shows(rt, holder, example.eroded);
+    shows(rt, holder, wanted);
     Ok(())
 }
 
-// Dilates it.
+// Dilates a row of three cells under the pair.
 fn dilates<H: Holder>(
     rt: &impl Abort,
     holder: &mut H,
     table: &mut [H::Cell],
-    example: Example<H::Cell>,
+    wanted: [H::Cell; 3],
 ) -> Result<(), Fail>
 where
     H::Cell: Kind + PartialEq + Debug,
 {
-    load(rt, holder, example.loaded);
     assert_eq!(rt; dilate(holder, &pair()?, table), Ok(32));
-    shows(rt, holder, example.dilated);
+    shows(rt, holder, wanted);
     Ok(())
 }
 
-fn load<H: Holder>(rt: &impl Abort, holder: &mut H, row: [H::Cell; 3])
-where
-    H::Cell: Kind,
-{
-    for x in 0..3 {
-        assert!(rt; holder.put(x, 0, row[x]));
+// Lays the row into the cells from place `at` on; all the others are `rest`.
+fn lay<K: Kind>(rt: &impl Abort, cells: &mut [K], at: usize, row: [K; 3], rest: K) {
+    assert!(rt; cells.len() == 64 && at <= 61);
+    for i in 0..64 {
+        cells[i] = rest;
     }
-}
-
-fn fill<K: Kind>(cells: &mut [K], with: K) {
-    for cell in cells {
-        *cell = with;
+    for x in 0..3 {
+        cells[at + x] = row[x];
     }
 }
 
 // The example in rows, in a square of 8 by 8 cells, and at the end of the southern of two rows, where the cell beside it
-// stays.
+// stays. The cells are 64.
 fn in_each_holder<K: Kind + PartialEq + Debug>(
     rt: &impl Abort,
     cells: &mut [K],
     table: &mut [K],
     example: Example<K>,
 ) -> Result<(), Fail> {
+    let row = example.row;
+    let eroded = example.eroded;
+    let dilated = example.dilated;
+    let first = example.row[0];
+    let second = example.row[1];
     assert!(rt; cells.len() == 64);
-    erodes(rt, &mut Rows::new(3, &mut cells[0..3]), table, example)?;
-    dilates(rt, &mut Rows::new(3, &mut cells[0..3]), table, example)?;
-    fill(cells, example.loaded[0]);
-    erodes(rt, &mut Tiles::new(3, 1, cells), table, example)?;
-    fill(cells, example.loaded[0]);
-    dilates(rt, &mut Tiles::new(3, 1, cells), table, example)?;
-    fill(cells, example.loaded[1]);
-    erodes(rt, &mut south_of_two(&mut cells[0..8]), table, example)?;
-    assert_eq!(rt; cells[4], example.loaded[1]);
-    fill(cells, example.loaded[1]);
-    dilates(rt, &mut south_of_two(&mut cells[0..8]), table, example)?;
-    assert_eq!(rt; cells[4], example.loaded[1]);
+    lay(rt, cells, 0, row, first);
+    erodes(rt, &mut Rows::new(3, &mut cells[0..3]), table, eroded)?;
+    lay(rt, cells, 0, row, first);
+    dilates(rt, &mut Rows::new(3, &mut cells[0..3]), table, dilated)?;
+    lay(rt, cells, 0, row, first);
+    erodes(rt, &mut Tiles::new(3, 1, &mut cells[0..64]), table, eroded)?;
+    lay(rt, cells, 0, row, first);
+    dilates(rt, &mut Tiles::new(3, 1, &mut cells[0..64]), table, dilated)?;
+    lay(rt, cells, 5, row, second);
+    erodes(rt, &mut in_the_south(&mut cells[0..8]), table, eroded)?;
+    assert_eq!(rt; cells[4], second);
+    lay(rt, cells, 5, row, second);
+    dilates(rt, &mut in_the_south(&mut cells[0..8]), table, dilated)?;
+    assert_eq!(rt; cells[4], second);
     Ok(())
 }
 
 // The last three columns of the southern of two rows, which lie south-up.
-fn south_of_two<'a, K: Kind>(cells: &'a mut [K]) -> Window<SouthUp<Rows<'a, K>>> {
+fn in_the_south<'a, K: Kind>(cells: &'a mut [K]) -> Window<SouthUp<Rows<'a, K>>> {
     Window::new(SouthUp::new(Rows::new(4, cells)), 1, 0, 9, 1)
 }
 
 #[test]
 fn gray_is_filtered(rt: HostRuntime) -> Result<(), Fail> {
     let example = Example {
-        loaded: [Gray(7), Gray(9), Gray(4)],
+        row: [Gray(7), Gray(9), Gray(4)],
         eroded: [Gray(7), Gray(4), Gray(4)],
         dilated: [Gray(7), Gray(9), Gray(9)],
     };
@@ -145,7 +146,7 @@ fn gray_is_filtered(rt: HostRuntime) -> Result<(), Fail> {
 #[test]
 fn heights_are_filtered(rt: HostRuntime) -> Result<(), Fail> {
     let example = Example {
-        loaded: [Height(-7), Height(9), Height(4)],
+        row: [Height(-7), Height(9), Height(4)],
         eroded: [Height(-7), Height(4), Height(4)],
         dilated: [Height(-7), Height(9), Height(9)],
     };
@@ -155,7 +156,7 @@ fn heights_are_filtered(rt: HostRuntime) -> Result<(), Fail> {
 #[test]
 fn flags_are_filtered(rt: HostRuntime) -> Result<(), Fail> {
     let example = Example {
-        loaded: [Flags(1), Flags(2), Flags(6)],
+        row: [Flags(1), Flags(2), Flags(6)],
         eroded: [Flags(0), Flags(2), Flags(6)],
         dilated: [Flags(1), Flags(3), Flags(6)],
     };
@@ -170,7 +171,7 @@ fn returns_are_filtered(rt: HostRuntime) -> Result<(), Fail> {
     let four = ReturnBits(0x4080_0000);
     let zero = ReturnBits(0);
     let example = Example {
-        loaded: [seven, nine, four],
+        row: [seven, nine, four],
         eroded: [seven, four, four],
         dilated: [seven, nine, nine],
     };
