@@ -35,8 +35,8 @@ pub(crate) fn gather<K: Kind, S: Side>(plan: &Plan, w: usize, table: &mut [K], o
         }
     }
     let start = oldest * plan.sizes * (w + 30);
-    for j in 0..w {
-        table[start + j] = row[j];
+    for c in 0..w {
+        table[start + c] = row[c];
     }
     picks
 }

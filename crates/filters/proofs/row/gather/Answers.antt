@@ -51,9 +51,9 @@ loop-k-preserved g c =
     )
 
 -- the slot has room for the row
-room : (g : given.Over) (c : goal.After-index-row-j g) → c.args.oldest * c.args.plan.now.sizes * (c.args.w + 30) + c.loop-j.j < length c.loop-j.table
+room : (g : given.Over) (c : goal.After-index-row-c g) → c.args.oldest * c.args.plan.now.sizes * (c.args.w + 30) + c.loop-c.c < length c.loop-c.table
 room g c =
-    omega (arith, c.requires.sizes.1.1, c.loop-j.auto.table, slot_room c.args.oldest c.args.plan.now.rows c.args.plan.now.sizes (c.args.w + 30) c.requires.sizes.1.0, part_room 0 c.args.plan.now.sizes (c.args.w + 30) c.requires.plan.some_length)
+    omega (arith, c.requires.sizes.1.1, c.loop-c.auto.table, slot_room c.args.oldest c.args.plan.now.rows c.args.plan.now.sizes (c.args.w + 30) c.requires.sizes.1.0, part_room 0 c.args.plan.now.sizes (c.args.w + 30) c.requires.plan.some_length)
 
 pub offset_bounds-table-start : goal.offset_bounds-table-start
 offset_bounds-table-start g c = let l = room g c in search rules
@@ -61,16 +61,16 @@ offset_bounds-table-start g c = let l = room g c in search rules
 pub bounds-table-start : goal.bounds-table-start
 bounds-table-start g c = room g c
 
-pub loop-j-preserved : goal.loop-j-preserved
-loop-j-preserved g c =
+pub loop-c-preserved : goal.loop-c-preserved
+loop-c-preserved g c =
     let f = g.K.Kind.means in
     let start = c.args.oldest * c.args.plan.now.sizes * (c.args.w + 30) in
-    let v = get_or c.loop-k.row c.loop-j.j c.index-row-j.result in
-    let lt : c.loop-j.j < length c.loop-k.row = omega arith in
+    let v = get_or c.loop-k.row c.loop-c.c c.index-row-c.result in
+    let lt : c.loop-c.c < length c.loop-k.row = omega arith in
     let lb = room g c in (
-      λ z. line_more f z c.loop-j.table start c.loop-j.j v _ lb (sym (get_or-map f c.loop-k.row c.loop-j.j c.index-row-j.result z lt)) (c.loop-j.invariant.0 z),
-      λ z. below_kept f z c.loop-j.table c.args.table.now start c.loop-j.j v (c.loop-j.invariant.1 z),
-      λ z. above_kept f z c.loop-j.table c.args.table.now start c.loop-j.j v (c.loop-j.invariant.2 z),
+      λ z. line_more f z c.loop-c.table start c.loop-c.c v _ lb (sym (get_or-map f c.loop-k.row c.loop-c.c c.index-row-c.result z lt)) (c.loop-c.invariant.0 z),
+      λ z. below_kept f z c.loop-c.table c.args.table.now start c.loop-c.c v (c.loop-c.invariant.1 z),
+      λ z. above_kept f z c.loop-c.table c.args.table.now start c.loop-c.c v (c.loop-c.invariant.2 z),
     )
 
 pub returns : goal.returns
@@ -78,8 +78,8 @@ returns g c =
     let e : c.loop-k.k - 1 ≡ c.args.plan.now.count - 1 = omega (arith, c.loop-k.auto.k-end, c.requires.plan.some_chord) in
     record {
       picks = c.loop-k.invariant.1 ∙ ap (λ (n : ℕ). c.args.w * n) e;
-      cells = λ z x h. let lt : x < c.loop-j.j = omega arith in
-          c.loop-j.invariant.0 z x lt ∙ c.loop-k.invariant.2 z x h ∙ ap (picked (side g.S.Side.lower g.K.Kind.lattice) (run_of g.K.Kind.means z c.args.table.now c.args.plan.now (c.args.w + 30) c.args.oldest x)) e;
-      before = c.loop-j.invariant.1;
-      after = λ z x h. c.loop-j.invariant.2 z x (omega arith);
+      cells = λ z x h. let lt : x < c.loop-c.c = omega arith in
+          c.loop-c.invariant.0 z x lt ∙ c.loop-k.invariant.2 z x h ∙ ap (picked (side g.S.Side.lower g.K.Kind.lattice) (run_of g.K.Kind.means z c.args.table.now c.args.plan.now (c.args.w + 30) c.args.oldest x)) e;
+      before = c.loop-c.invariant.1;
+      after = λ z x h. c.loop-c.invariant.2 z x (omega arith);
     }

@@ -22,8 +22,8 @@ invariant-loop-x g l =
     ((z : g.K.Kind.Cell) (x : ℕ) → x < l.x → cell_at g.K.Kind.means z l.row x ≡ picked (side g.S.Side.lower g.K.Kind.lattice) (run_of g.K.Kind.means z l.table l.plan (l.w + 30) l.oldest x) l.k) ×
     ((z : g.K.Kind.Cell) (x : ℕ) → l.x ≤ x → x < l.w → cell_at g.K.Kind.means z l.row x ≡ picked (side g.S.Side.lower g.K.Kind.lattice) (run_of g.K.Kind.means z l.table l.plan (l.w + 30) l.oldest x) (l.k - 1))
 
-abbrev pub invariant-loop-j : goal.invariant-loop-j
-invariant-loop-j g l =
-    ((z : g.K.Kind.Cell) (x : ℕ) → x < l.j → cell_at g.K.Kind.means z l.table (l.start + x) ≡ cell_at g.K.Kind.means z l.row x) ×
+abbrev pub invariant-loop-c : goal.invariant-loop-c
+invariant-loop-c g l =
+    ((z : g.K.Kind.Cell) (x : ℕ) → x < l.c → cell_at g.K.Kind.means z l.table (l.start + x) ≡ cell_at g.K.Kind.means z l.row x) ×
     ((z : g.K.Kind.Cell) (x : ℕ) → x < l.start → cell_at g.K.Kind.means z l.table x ≡ cell_at g.K.Kind.means z l.initial.table x) ×
-    ((z : g.K.Kind.Cell) (x : ℕ) → l.start + l.j ≤ x → cell_at g.K.Kind.means z l.table x ≡ cell_at g.K.Kind.means z l.initial.table x)
+    ((z : g.K.Kind.Cell) (x : ℕ) → l.start + l.c ≤ x → cell_at g.K.Kind.means z l.table x ≡ cell_at g.K.Kind.means z l.initial.table x)
