@@ -1,13 +1,28 @@
 -- Stored numbers and the picks of their chain: `held z` is the cell that the number z is stored for.
-use Rattle.std.proofs.Common.{◌≡◌, ℤ, ◌≤ℤ◌, ◌<ℤ◌, Decides, ap, inl, inr, arith}
+use Rattle.std.proofs.Common.{◌≡◌, Bool, true, false, cond, ℤ, ◌≤ℤ◌, ◌<ℤ◌, pos, ℕ, Decides, Ordering, ap, ◌∙◌, inl, inr, arith}
+use Rattle.std.specs.Ordering.{is_lt, is_gt, nat_cmp, int_cmp, ord_min, ord_max}
+use Rattle.std.proofs.lemmas.Bool.Decides.{nat_tests}
 use lib.Signed.{lt_z}
 use Rattle.std.proofs.lemmas.Int.{ints, clamps, by_lt_z}
 use Rattle.cells.specs.Lattice.{Under, Above, Comparable}
 use Rattle.cells.specs.Levels.{OrderedBy}
 use Rattle.cells.specs.Chain.{Within, held, smaller, larger, chain, same_number}
 
+-- the orders of the library, as tests
+pub nat_less : (m n : ℕ) → is_lt (nat_cmp m n) ≡ lt_z (pos m) (pos n)
+nat_less m n = grind (arith, ints, nat_tests)
+
+pub nat_greater : (m n : ℕ) → is_gt (nat_cmp m n) ≡ lt_z (pos n) (pos m)
+nat_greater m n = grind (arith, ints, nat_tests)
+
+pub int_less : (z w : ℤ) → is_lt (int_cmp z w) ≡ lt_z z w
+int_less z w = grind (arith, ints)
+
+pub int_greater : (z w : ℤ) → is_gt (int_cmp z w) ≡ lt_z w z
+int_greater z w = grind (arith, ints)
+
 module _ {lo hi : ℤ} (h : lo ≤ℤ hi) where
-  -- the pick is the stored number that the test chose
+  -- the pick is the stored number that is less, or the one that is greater
   pub smaller_first : (z w : ℤ) → z ≤ℤ w → held lo hi h z ≡ smaller (held lo hi h z) (held lo hi h w)
   smaller_first z w e = same_number _ _ (omega (arith, ints, clamps))
 
@@ -19,6 +34,20 @@ module _ {lo hi : ℤ} (h : lo ≤ℤ hi) where
 
   pub larger_second : (z w : ℤ) → z ≤ℤ w → held lo hi h w ≡ larger (held lo hi h z) (held lo hi h w)
   larger_second z w e = same_number _ _ (omega (arith, ints, clamps))
+
+  -- an order of what is stored, which is that of the stored numbers, chooses the picks
+  module _ {S : Type 0} (stored : S → ℤ) (order : S → S → Ordering) (agrees : (a b : S) → is_lt (order a b) ≡ lt_z (stored a) (stored b)) where
+    pub smaller_least : (a b r : S) → r ≡ ord_min order a b → held lo hi h (stored r) ≡ smaller (held lo hi h (stored a)) (held lo hi h (stored b))
+    smaller_least a b r e = ap (λ s. held lo hi h (stored s)) e ∙ chosen (is_lt (order b a)) (agrees b a) where
+      chosen : (t : Bool) → t ≡ lt_z (stored b) (stored a) → held lo hi h (stored (cond t b a)) ≡ smaller (held lo hi h (stored a)) (held lo hi h (stored b))
+      chosen true f = smaller_second (stored a) (stored b) (grind (arith, ints, f))
+      chosen false f = smaller_first (stored a) (stored b) (grind (arith, ints, f))
+
+    pub larger_greatest : (a b r : S) → r ≡ ord_max order a b → held lo hi h (stored r) ≡ larger (held lo hi h (stored a)) (held lo hi h (stored b))
+    larger_greatest a b r e = ap (λ s. held lo hi h (stored s)) e ∙ chosen (is_lt (order b a)) (agrees b a) where
+      chosen : (t : Bool) → t ≡ lt_z (stored b) (stored a) → held lo hi h (stored (cond t a b)) ≡ larger (held lo hi h (stored a)) (held lo hi h (stored b))
+      chosen true f = larger_first (stored a) (stored b) (grind (arith, ints, f))
+      chosen false f = larger_second (stored a) (stored b) (grind (arith, ints, f))
 
   under_number : (a b : Within lo hi) → Under (chain lo hi h) a b → a.number ≤ℤ b.number
   under_number a b u = let e = ap (λ c. c.number) u in omega (arith, ints, clamps)

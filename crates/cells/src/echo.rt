@@ -18,27 +18,31 @@ pub struct Return {
 }
 
 impl Return {
-    // The return that the bits count as.
-    pub fn from_bits(bits: ReturnBits) -> Return
-        ensures { to_bits binary32 result.strength ≡ counted bits.0 }
-    {
-        Return {
-            strength: f32::from_bits(counted_bits(bits.0)),
-        }
-    }
-
-    // The bits of this return.
-    pub fn to_bits(self) -> ReturnBits
-        ensures { result.0 ≡ to_bits binary32 self.strength }
-    {
-        ReturnBits(self.strength.to_bits())
-    }
-
-    // The whole number by which returns are ordered.
+    // The whole number by which returns are ordered; no derive orders floats.
     pub fn rank(self) -> i32
         ensures { result ≡ rank (to_bits binary32 self.strength) }
     {
         rank_of(self.strength.to_bits())
+    }
+}
+
+// The return that the bits count as.
+impl From<ReturnBits> for Return {
+    ghost from_gives = { λ b r. to_bits binary32 r.strength ≡ counted b.0 };
+
+    fn from(bits: ReturnBits) -> Return {
+        Return {
+            strength: f32::from_bits(counted_bits(bits.0)),
+        }
+    }
+}
+
+// The bits of a return.
+impl From<Return> for ReturnBits {
+    ghost from_gives = { λ r b. b.0 ≡ to_bits binary32 r.strength };
+
+    fn from(number: Return) -> ReturnBits {
+        ReturnBits(number.strength.to_bits())
     }
 }
 
@@ -50,22 +54,22 @@ impl Kind for ReturnBits {
     ghost means = { λ r. return_cell r.0 };
 
     fn meet(self, other: ReturnBits) -> ReturnBits {
-        let a = Return::from_bits(self);
-        let b = Return::from_bits(other);
+        let a = Return::from(self);
+        let b = Return::from(other);
         if b.rank() < a.rank() {
-            b.to_bits()
+            ReturnBits::from(b)
         } else {
-            a.to_bits()
+            ReturnBits::from(a)
         }
     }
 
     fn join(self, other: ReturnBits) -> ReturnBits {
-        let a = Return::from_bits(self);
-        let b = Return::from_bits(other);
+        let a = Return::from(self);
+        let b = Return::from(other);
         if a.rank() > b.rank() {
-            a.to_bits()
+            ReturnBits::from(a)
         } else {
-            b.to_bits()
+            ReturnBits::from(b)
         }
     }
 
@@ -80,7 +84,7 @@ impl Kind for ReturnBits {
 
 impl Ranked for ReturnBits {
     fn above(self, other: ReturnBits) -> bool {
-        Return::from_bits(other).rank() < Return::from_bits(self).rank()
+        Return::from(self).rank() > Return::from(other).rank()
     }
 }
 

@@ -4,7 +4,7 @@ ghost use Rattle.cells.specs.Kinds.{GrayCell, grays, gray_cell};
 
 use crate::kind::{Kind, Measured, Ranked};
 
-#[derive(Clone, Copy, PartialEq, Eq, Debug)]
+#[derive(Clone, Copy, PartialEq, Eq, PartialOrd, Ord, Debug)]
 pub struct Gray(pub u8);
 
 impl Kind for Gray {
@@ -15,11 +15,11 @@ impl Kind for Gray {
     ghost means = { λ g. gray_cell g.0 };
 
     fn meet(self, other: Gray) -> Gray {
-        if other.0 < self.0 { other } else { self }
+        self.min(other)
     }
 
     fn join(self, other: Gray) -> Gray {
-        if other.0 < self.0 { self } else { other }
+        self.max(other)
     }
 
     fn least() -> Gray {
@@ -33,7 +33,7 @@ impl Kind for Gray {
 
 impl Ranked for Gray {
     fn above(self, other: Gray) -> bool {
-        self.0 > other.0
+        self > other
     }
 }
 
@@ -45,6 +45,6 @@ impl Measured for Gray {
     }
 
     fn midway(self, other: Gray) -> Gray {
-        Gray(((u16::from(self.0) + u16::from(other.0)) / 2) as u8)
+        Gray(self.0.midpoint(other.0))
     }
 }

@@ -5,7 +5,7 @@ ghost use Rattle.cells.specs.Kinds.{HeightCell, heights, height_cell};
 
 use crate::kind::{Kind, Measured, Ranked};
 
-#[derive(Clone, Copy, PartialEq, Eq, Debug)]
+#[derive(Clone, Copy, PartialEq, Eq, PartialOrd, Ord, Debug)]
 pub struct Height(pub i32);
 
 impl Kind for Height {
@@ -16,11 +16,11 @@ impl Kind for Height {
     ghost means = { λ h. height_cell h.0 };
 
     fn meet(self, other: Height) -> Height {
-        if other.0 < self.0 { other } else { self }
+        self.min(other)
     }
 
     fn join(self, other: Height) -> Height {
-        if other.0 < self.0 { self } else { other }
+        self.max(other)
     }
 
     fn least() -> Height {
@@ -34,7 +34,7 @@ impl Kind for Height {
 
 impl Ranked for Height {
     fn above(self, other: Height) -> bool {
-        self.0 > other.0
+        self > other
     }
 }
 
@@ -42,7 +42,7 @@ impl Measured for Height {
     ghost level = { λ h. (height_cell h.0).number };
 
     fn level(self) -> i32 {
-        i32::from(self.0)
+        self.0
     }
 
     fn midway(self, other: Height) -> Height {

@@ -34,11 +34,7 @@ impl WordForm for Gray {
     ghost writes = { λ g. g.0 };
 
     fn from_word(word: u32) -> Option<Gray> {
-        if word <= 255 {
-            Some(Gray(word as u8))
-        } else {
-            None
-        }
+        u8::try_from(word).ok().map(Gray)
     }
 
     fn to_word(self) -> u32 {
@@ -52,11 +48,7 @@ impl WordForm for Flags {
     ghost writes = { λ f. f.0 };
 
     fn from_word(word: u32) -> Option<Flags> {
-        if word <= 255 {
-            Some(Flags(word as u8))
-        } else {
-            None
-        }
+        u8::try_from(word).ok().map(Flags)
     }
 
     fn to_word(self) -> u32 {
@@ -87,12 +79,12 @@ impl WordForm for ReturnBits {
         if is_not_a_number(word) {
             None
         } else {
-            Some(Return::from_bits(ReturnBits(word)).to_bits())
+            Some(ReturnBits::from(Return::from(ReturnBits(word))))
         }
     }
 
     fn to_word(self) -> u32 {
-        Return::from_bits(self).to_bits().0
+        ReturnBits::from(Return::from(self)).0
     }
 }
 

@@ -8,16 +8,16 @@ use Rattle.cells.proofs.echo.ReturnBitsKind.meet.Goals as goal
 
 pub returns-then-rank : goal.returns-then-rank
 returns-then-rank c =
-    let a : c.rank-2.result ≡ rank (counted c.args.self.0) = c.rank-2.ensures ∙ ap rank c.from_bits-a.ensures in
-    let b : c.rank.result ≡ rank (counted c.args.other.0) = c.rank.ensures ∙ ap rank c.from_bits-b.ensures in
+    let a : c.rank-2.result ≡ rank (counted c.args.self.0) = c.rank-2.ensures ∙ ap rank c.from-a.ensures in
+    let b : c.rank.result ≡ rank (counted c.args.other.0) = c.rank.ensures ∙ ap rank c.from-b.ensures in
     let below : rank (counted c.args.other.0) ≤ℤ rank (counted c.args.self.0) = omega (arith, ints) in
-    return_same c.args.other.0 c.to_bits.result.0 (c.to_bits.ensures ∙ c.from_bits-b.ensures)
+    return_same c.args.other.0 c.from.result.0 (c.from.ensures ∙ c.from-b.ensures)
     ∙ smaller_second return_bounds (rank (counted c.args.self.0)) (rank (counted c.args.other.0)) below
 
 pub returns-else-rank : goal.returns-else-rank
 returns-else-rank c =
-    let a : c.rank-2.result ≡ rank (counted c.args.self.0) = c.rank-2.ensures ∙ ap rank c.from_bits-a.ensures in
-    let b : c.rank.result ≡ rank (counted c.args.other.0) = c.rank.ensures ∙ ap rank c.from_bits-b.ensures in
+    let a : c.rank-2.result ≡ rank (counted c.args.self.0) = c.rank-2.ensures ∙ ap rank c.from-a.ensures in
+    let b : c.rank.result ≡ rank (counted c.args.other.0) = c.rank.ensures ∙ ap rank c.from-b.ensures in
     let above : rank (counted c.args.self.0) ≤ℤ rank (counted c.args.other.0) = omega (arith, ints) in
-    return_same c.args.self.0 c.to_bits-else-rank.result.0 (c.to_bits-else-rank.ensures ∙ c.from_bits-a.ensures)
+    return_same c.args.self.0 c.from-else-rank.result.0 (c.from-else-rank.ensures ∙ c.from-a.ensures)
     ∙ smaller_first return_bounds (rank (counted c.args.self.0)) (rank (counted c.args.other.0)) above

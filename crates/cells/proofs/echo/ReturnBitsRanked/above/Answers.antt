@@ -14,12 +14,12 @@ returns c =
     let other = c.args.other.0 in
     let f : SFits w32 c.rank.result = search rules in
     let g : SFits w32 c.rank-2.result = search rules in
-    let b : c.rank.result ≡ rank (counted other) = c.rank.ensures ∙ ap rank c.from_bits.ensures in
-    let a : c.rank-2.result ≡ rank (counted self) = c.rank-2.ensures ∙ ap rank c.from_bits-2.ensures in
+    let a : c.rank.result ≡ rank (counted self) = c.rank.ensures ∙ ap rank c.from.ensures in
+    let b : c.rank-2.result ≡ rank (counted other) = c.rank-2.ensures ∙ ap rank c.from-2.ensures in
     record {
       answer =
           simp to_z-of_z
-          (Decides-at (lt_z c.rank.result c.rank-2.result) (lt_z (rank (counted other)) (rank (counted self))) (ap₂ lt_z b a)
+          (Decides-at (lt_z c.rank-2.result c.rank.result) (lt_z (rank (counted other)) (rank (counted self))) (ap₂ lt_z b a)
           (above_decides return_bounds (rank (counted self)) (rank (counted other)) (counted_low self) (counted_high self) (counted_low other) (counted_high other)));
       comparable = comparable return_bounds;
     }

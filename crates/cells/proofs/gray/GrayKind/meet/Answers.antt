@@ -1,12 +1,10 @@
--- The smaller number is the one that the test chose.
-use Rattle.std.proofs.Common.{pos, arith}
+-- The order of grays is that of their numbers.
+use Rattle.std.proofs.Common.{pos}
+use Rattle.std.specs.Ordering.{nat_cmp}
 use Rattle.cells.specs.Kinds.{gray_bounds}
-use Rattle.std.proofs.lemmas.Int.{ints}
-use Rattle.cells.proofs.Chains.{smaller_first, smaller_second}
+use Rattle.cells.specs.declared.gray.Gray.{Gray}
+use Rattle.cells.proofs.Chains.{nat_less, smaller_least}
 use Rattle.cells.proofs.gray.GrayKind.meet.Goals as goal
 
-pub returns-then-other-self : goal.returns-then-other-self
-returns-then-other-self c = smaller_second gray_bounds (pos c.args.self.0) (pos c.args.other.0) (omega (arith, ints))
-
-pub returns-else-other-self : goal.returns-else-other-self
-returns-else-other-self c = smaller_first gray_bounds (pos c.args.self.0) (pos c.args.other.0) (omega (arith, ints))
+pub returns : goal.returns
+returns c = smaller_least gray_bounds (λ (g : Gray). pos g.0) (λ (a b : Gray). nat_cmp a.0 b.0) (λ a b. nat_less a.0 b.0) c.args.self c.args.other c.min.result c.min.ensures

@@ -1,12 +1,9 @@
--- The larger number is the one that the test chose.
-use Rattle.std.proofs.Common.{arith}
+-- The order of heights is that of their numbers.
+use Rattle.std.specs.Ordering.{int_cmp}
 use Rattle.cells.specs.Kinds.{height_bounds}
-use Rattle.std.proofs.lemmas.Int.{ints}
-use Rattle.cells.proofs.Chains.{larger_first, larger_second}
+use Rattle.cells.specs.declared.height.Height.{Height}
+use Rattle.cells.proofs.Chains.{int_less, larger_greatest}
 use Rattle.cells.proofs.height.HeightKind.join.Goals as goal
 
-pub returns-then-other-self : goal.returns-then-other-self
-returns-then-other-self c = larger_first height_bounds c.args.self.0 c.args.other.0 (omega (arith, ints))
-
-pub returns-else-other-self : goal.returns-else-other-self
-returns-else-other-self c = larger_second height_bounds c.args.self.0 c.args.other.0 (omega (arith, ints))
+pub returns : goal.returns
+returns c = larger_greatest height_bounds (λ (h : Height). h.0) (λ (a b : Height). int_cmp a.0 b.0) (λ a b. int_less a.0 b.0) c.args.self c.args.other c.max.result c.max.ensures

@@ -6,5 +6,5 @@ use Rattle.cells.proofs.words.ReturnBitsWordForm.to_word.Goals as goal
 
 pub returns : goal.returns
 returns c =
-    let e : c.to_bits.result.0 ≡ counted c.args.self.0 = c.to_bits.ensures ∙ c.from_bits.ensures in
-    record { answer = e; again = return_again c.args.self.0 c.to_bits.result.0 e }
+    let e : c.from-2.result.0 ≡ counted c.args.self.0 = c.from-2.ensures ∙ c.from.ensures in
+    record { answer = e; again = return_again c.args.self.0 c.from-2.result.0 e }

@@ -2,7 +2,7 @@
 use Rattle.std.proofs.Common.{◌≡◌, ℕ, ◌^◌, false, not, T, sym, ap, ◌∙◌, subst}
 use lib.Ieee.{binary32, is_nan, nan_bits, of_bits, to_bits}
 use Rattle.cells.proofs.Echoes.{counted_number, counted_is_number, counted_back, counted_unsigned}
-use Rattle.cells.proofs.echo.Return.from_bits.Goals as goal
+use Rattle.cells.proofs.echo.ReturnFromReturnBits.from.Goals as goal
 
 pub float_from_bits-result : goal.float_from_bits-result
 float_from_bits-result c = subst (λ (n : ℕ). T (not (nan_bits binary32 n))) (sym c.counted_bits.ensures) (counted_number c.args.bits.0)
