@@ -6,9 +6,6 @@ use Rattle.masks.specs.Cost.{capped}
 pub cap_add : (a b : ℕ) → capped (capped a + capped b) ≡ capped (a + b)
 cap_add a b = omega arith
 
-pub cap_add_right : (a b : ℕ) → capped (a + capped b) ≡ capped (a + b)
-cap_add_right a b = omega arith
-
 -- a capped factor makes no difference: where it is capped, the product is too, unless the other factor is 0
 pub cap_mul_left : (a b : ℕ) → capped (capped a * b) ≡ capped (a * b)
 cap_mul_left a zero = ap capped (mul-zero (capped a) ∙ sym (mul-zero a))
@@ -24,13 +21,6 @@ cap_mul_left a (suc b) =
   where
     one_le : (n : ℕ) → 1 ≤ suc n
     one_le n = omega arith
-
-pub cap_mul : (a b : ℕ) → capped (capped a * capped b) ≡ capped (a * b)
-cap_mul a b =
-    cap_mul_left a (capped b)
-    ∙ ap capped (mul_comm a (capped b))
-    ∙ cap_mul_left b a
-    ∙ ap capped (mul_comm b a)
 
 -- the sum of the picks, where the products of its parts were capped
 pub cap_picks : (lines line area others : ℕ) → capped (capped (capped lines * line) + capped (capped area * others)) ≡ capped (lines * line + area * others)

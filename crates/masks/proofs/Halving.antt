@@ -1,6 +1,7 @@
 -- The rule of the length list, from 31 down.
 use Rattle.std.proofs.Common.{◌≡◌, ℕ, zero, suc, ◌+◌, ◌-◌, ◌/◌, ◌<◌, ◌≤◌, Bool, true, false, cond, not, ◌&&◌, ◌||◌, leb, ◌≢◌, List, [], ◌∷◌, ◌++◌, reverse, length, get_or, take, set, replicate, fold, filter, sym, refl, ap, ◌∙◌, subst, inl, inr, add-one, arith}
 use Rattle.std.specs.List.{range_with_len, AllByRecursion}
+use Rattle.std.proofs.Math.Bool.{or-true}
 use Rattle.std.proofs.lemmas.List.{length-set, get_or-set_same, get_or-set_other, reverse-append}
 use Rattle.std.proofs.ByRecursion.{All-weaker}
 use Rattle.std.proofs.lemmas.List.Sums.{fold_push, fold_more}
@@ -29,6 +30,14 @@ halved_down_all s = refl
 
 pub reached_more : (s : List Bool) (a b : ℕ) → reached s a (b + 1) ≡ (reached s a b || (listed s b && leb a (b + b)))
 reached_more s a b = ap (reached s a) (add-one b)
+
+-- a number below n that reaches a is enough
+pub reached_by : (s : List Bool) (a b n : ℕ) → b < n → (listed s b && leb a (b + b)) ≡ true → reached s a n ≡ true
+reached_by s a b zero h e = absurd (omega arith)
+reached_by s a b (suc n) h e = elim (cases_eq b n) [
+  | inl q ↦ ap (λ (t : Bool). reached s a n || t) (subst (λ (k : ℕ). (listed s k && leb a (k + k)) ≡ true) q e) ∙ or-true (reached s a n)
+  | inr q ↦ ap (λ (t : Bool). t || (listed s n && leb a (n + n))) (reached_by s a b n (omega arith) e)
+]
 
 -- b is listed, lies below a and reaches a when doubled
 abbrev Near : List Bool → ℕ → ℕ → Type 0

@@ -1,10 +1,12 @@
 -- Rows that were turned about the origin.
-use Rattle.std.proofs.Common.{◌≡◌, ℕ, ◌+◌, ◌-◌, ◌<◌, Bool, true, false, ◌&&◌, ltb, List, [], get_or, ℤ, pos, ◌+ℤ◌, neg_ℤ, sym, refl, ap, ◌∙◌, ap₂, inl, inr, arith}
+use Rattle.std.proofs.Common.{◌≡◌, ℕ, zero, suc, ◌+◌, ◌-◌, ◌*◌, ◌/◌, ◌%◌, ◌^◌, ◌<◌, Bool, eqb, true, false, ◌&&◌, ltb, List, [], length, reverse, get_or, ℤ, pos, ◌+ℤ◌, neg_ℤ, sym, refl, ap, ◌∙◌, ap₂, inl, inr, arith, w32}
+use Rattle.std.proofs.Math.Nat.{div-div-eq-div-mul}
+use Rattle.std.proofs.lemmas.Nat.{pow-add}
+use Rattle.std.proofs.lemmas.List.{get_or-reverse}
 use Rattle.std.proofs.lemmas.Int.{ints}
 use Rattle.std.proofs.lemmas.Bool.{lt-ltb, cases_eq}
-use Rattle.std.proofs.lemmas.Bool.Decides.{nat_tests}
-use Rattle.bits.specs.Bit.{bit, with_bit}
-use Rattle.bits.proofs.SingleBits.{bit_with_bit}
+use Rattle.std.specs.Int.{reverse_bits, reverse_bits_onto}
+use Rattle.bits.specs.Bit.{bit}
 use Rattle.masks.specs.Points.{turned}
 use Rattle.masks.specs.Rows.{marked, marked_at, holds, points}
 use Rattle.masks.specs.declared.point.Point.{Point}
@@ -16,26 +18,56 @@ both_true true b f g = sym (f refl)
 both_true false true f g = g refl
 both_true false false f g = refl
 
--- bit n of a word in the opposite order, where the bits below n stand
-module _ (out word k n : ℕ) (sofar : bit k out ≡ (ltb k n && bit (30 - k) word)) where
-  pub reversed_yes : bit (30 - n) word ≡ true → bit k (with_bit n out) ≡ (ltb k (n + 1) && bit (30 - k) word)
-  reversed_yes h =
-      let w = bit_with_bit k n out in
-      elim (cases_eq k n) [
-        | inl e ↦ let b : bit (30 - k) word ≡ true = ap (λ (i : ℕ). bit (30 - i) word) e ∙ h in grind (arith, nat_tests)
-        | inr e ↦ grind (arith, nat_tests)
-      ]
+-- a bit of half a number
+bit_half : (i n : ℕ) → bit i (n / 2) ≡ bit (i + 1) n
+bit_half i n =
+    ap (λ (q : ℕ). eqb (q % 2) 1)
+    (let e : 1 + i ≡ i + 1 = omega arith in div-div-eq-div-mul n 2 (2 ^ i) ∙ ap (λ (k : ℕ). n / k) (sym (pow-add 2 1 i)) ∙ ap (λ (k : ℕ). n / 2 ^ k) e)
 
-  pub reversed_no : bit (30 - n) word ≡ false → bit k out ≡ (ltb k (n + 1) && bit (30 - k) word)
-  reversed_no h =
-      elim (cases_eq k n) [
-        | inl e ↦ let b : bit (30 - k) word ≡ false = ap (λ (i : ℕ). bit (30 - i) word) e ∙ h in grind (arith, nat_tests)
-        | inr e ↦ grind (arith, nat_tests)
-      ]
+-- the lowest k bits of n, last first, after the bits of a: where each bit stands
+bit_after : (k n a i : ℕ) → bit (k + i) (reverse_bits_onto k n a) ≡ bit i a
+unfolding reverse_bits_onto
+bit_after zero n a i = let e : 0 + i ≡ i = omega arith in ap (λ (j : ℕ). bit j a) e
+bit_after (suc k) n a i =
+    let behind : ℕ = a * 2 + n % 2 in
+    let half : behind / 2 ≡ a = omega arith in
+    let e : suc k + i ≡ k + (i + 1) = omega arith in
+    ap (λ (j : ℕ). bit j (reverse_bits_onto k (n / 2) behind)) e
+    ∙ bit_after k (n / 2) behind (i + 1)
+    ∙ sym (bit_half i behind)
+    ∙ ap (bit i) half
+
+bit_turned : (k n a i : ℕ) → i < k → bit i (reverse_bits_onto k n a) ≡ bit (k - 1 - i) n
+unfolding reverse_bits_onto
+bit_turned zero n a i h = absurd (omega arith)
+bit_turned (suc k) n a i h = elim (cases_eq i k) [
+  | inl e ↦
+      let s : i ≡ k + 0 = omega arith in
+      let z : suc k - 1 - i ≡ 0 = omega arith in
+      let odd : (a * 2 + n % 2) / 2 ^ 0 % 2 ≡ n / 2 ^ 0 % 2 = omega arith in
+      ap (λ (j : ℕ). bit j (reverse_bits_onto k (n / 2) (a * 2 + n % 2))) s
+      ∙ bit_after k (n / 2) (a * 2 + n % 2) 0
+      ∙ ap (λ (q : ℕ). eqb q 1) odd
+      ∙ ap (λ (j : ℕ). bit j n) (sym z)
+  | inr f ↦
+      let s : k - 1 - i + 1 ≡ suc k - 1 - i = omega arith in
+      bit_turned k (n / 2) (a * 2 + n % 2) i (omega arith) ∙ bit_half (k - 1 - i) n ∙ ap (λ (j : ℕ). bit j n) s
+]
+
+pub reversed_bit : (word i : ℕ) → i < 31 → bit i (reverse_bits w32 word / 2) ≡ bit (30 - i) word
+reversed_bit word i h = bit_half i (reverse_bits w32 word) ∙ bit_turned 32 word 0 (i + 1) (omega arith) ∙ (let e : 32 - 1 - (i + 1) ≡ 30 - i = omega arith in ap (λ (j : ℕ). bit j word) e)
 
 -- each row is the opposite row with its columns in the opposite order
 abbrev pub Turned : List ℕ → List ℕ → Type 0
 Turned rows out = (r c : ℕ) → r < 31 → c < 31 → bit c (get_or out r 0) ≡ bit (30 - c) (get_or rows (30 - r) 0)
+
+-- rows whose columns were put in the opposite order are turned when their own order is reversed
+pub turned_rows : (rows mid out : List ℕ) → length mid ≡ 31 → out ≡ reverse mid → ((r : ℕ) → r < 31 → (c : ℕ) → c < 31 → bit c (get_or mid r 0) ≡ bit (30 - c) (get_or rows r 0)) → Turned rows out
+turned_rows rows mid out long e each r c hr hc =
+    let k : length mid - 1 - r ≡ 30 - r = omega arith in
+    ap (λ (l : List ℕ). bit c (get_or l r 0)) e
+    ∙ ap (bit c) (get_or-reverse mid r 0 (omega arith) ∙ ap (λ (n : ℕ). get_or mid n 0) k)
+    ∙ each (30 - r) (omega arith) c hc
 
 module _ (rows out : List ℕ) (T : Turned rows out) where
   turned_marked : (c r : ℕ) → c < 31 → r < 31 → marked out c r ≡ marked rows (30 - c) (30 - r)

@@ -1,65 +1,66 @@
 // Chords: runs of points in one row.
-ghost use Rattle.std.specs.Prelude.{◌≡◌, ◌+◌, ◌<◌, ◌≤◌, ◌++◌, map, length, take};
+ghost use Rattle.std.specs.Prelude.{◌≡◌, ◌+◌, ◌<◌, ◌≤◌, ◌++◌, map, length};
 ghost use Rattle.masks.specs.Chords.{run, starts_at, starts, chord_at, chords, Chords};
 
 use crate::mask::{Mask, marked};
+use arrayvec::ArrayVec;
+use std::marker::Model;
 
 // A run of points in one row that cannot be lengthened at either end: its row v, its first point's u, its number of points.
-#[derive(Clone, Copy, PartialEq, Eq, Debug)]
+#[derive(Clone, Copy, PartialEq, Eq, Debug, Default)]
 pub struct Chord {
     pub v: i32,
     pub start: i32,
     pub length: usize,
 }
 
-// The chords of a mask.
-#[derive(Clone, Copy)]
+// The chords of a mask, in the value itself: 31 rows have room for 16 each.
+#[derive(Drop)]
 pub struct ChordList {
-    list: [Chord; 496],
-    count: usize,
-    ghost few: { count ≤ 496 },
+    list: ArrayVec<Chord, 496>,
+}
+
+impl Model for ChordList {
+    ghost use Rattle.std.specs.Prelude.{List};
+    ghost use Rattle.masks.specs.declared.chord.Chord.{Chord};
+
+    ghost Value = { List Chord };
+
+    ghost view = { λ l. l.list.items };
 }
 
 impl ChordList {
     // The chords of the mask: just its maximal runs, row by row and each row from the left.
     pub fn of(mask: &Mask) -> ChordList
-        ensures list { take result.count result.list ≡ chords mask.now.rows 31 }
+        ensures list { result ≡ chords mask.now.rows 31 }
         ensures runs { Chords mask.now.rows (chords mask.now.rows 31) }
     {
-        let mut list = [Chord {
-            v: 0,
-            start: 0,
-            length: 0,
-        }; 496];
-        let mut count = 0;
+        let mut list = ArrayVec::new();
         for r in 0..31 {
-            count = add_row(&mask.rows, r, &mut list, count);
+            add_row(&mask.rows, r, &mut list);
         }
-        ChordList { list, count }
+        ChordList { list }
     }
 
     // The chords as a slice.
     pub fn as_slice(&self) -> &[Chord]
-        ensures { result.now ≡ take self.now.count self.now.list }
+        ensures items { result.now ≡ self.now }
+        ensures few { length result.now ≤ 496 }
     {
-        &self.list[0..self.count]
+        self.list.as_slice()
     }
 }
 
-// Writes the chords of row r behind the first `count` of the list, and answers how many there are now.
-fn add_row(rows: &[u32; 31], r: usize, list: &mut [Chord; 496], count: usize) -> usize
-    requires { (r < 31) × (count + 16 ≤ 496) }
-    ensures answer { result ≡ count + length (starts rows.now r 31) }
-    ensures after { take result list.new ≡ take count list.old ++ map (chord_at rows.now r) (starts rows.now r 31) }
+// Puts the chords of row r behind those that are there.
+fn add_row(rows: &[u32; 31], r: usize, list: &mut ArrayVec<Chord, 496>)
+    requires { (r < 31) × (length list.old.items + 16 ≤ 496) }
+    ensures { list.new.items ≡ list.old.items ++ map (chord_at rows.now r) (starts rows.now r 31) }
 {
-    let mut n = count;
     for c in 0..31 {
         if starts(rows, r, c) {
-            list[n] = chord_at(rows, r, c);
-            n += 1;
+            list.push(chord_at(rows, r, c));
         }
     }
-    n
 }
 
 // Whether a chord starts in column c of row r: a point stands there, and none to its left.
@@ -82,14 +83,10 @@ fn chord_at(rows: &[u32; 31], r: usize, c: usize) -> Chord
 }
 
 // How many points follow each other in row r from column c to the right.
+#[tactic(auto, unfolding(crate::specs::Chords::run))]
 fn run(rows: &[u32; 31], c: usize, r: usize) -> usize
     requires { c < 31 }
     ensures { result ≡ run rows.now c r }
 {
-    for n in 0..31 {
-        if !marked(rows, c + n, r) {
-            return n;
-        }
-    }
-    31
+    (c..c + 31).take_while(|k| marked(rows, *k, r)).count()
 }

@@ -76,7 +76,7 @@ fn northmost(chords: &[Chord]) -> i32
 {
     let mut north = 0;
     for c in chords {
-        north = lesser(north, c.v);
+        north = north.min(c.v);
     }
     north
 }
@@ -89,23 +89,9 @@ fn southmost(chords: &[Chord]) -> i32
 {
     let mut south = 0;
     for c in chords {
-        south = greater(south, c.v);
+        south = south.max(c.v);
     }
     south
-}
-
-// The lesser of two numbers.
-fn lesser(a: i32, b: i32) -> i32
-    ensures { result ≡ int_min a b }
-{
-    if b < a { b } else { a }
-}
-
-// The greater of two numbers.
-fn greater(a: i32, b: i32) -> i32
-    ensures { result ≡ int_max a b }
-{
-    if b < a { a } else { b }
 }
 
 // The picks of one table line: those of each length after the first.

@@ -1,25 +1,33 @@
 // The length list: the run lengths for which a filter's table has lines.
-ghost use Rattle.std.specs.Prelude.{◌≡◌, ◌+◌, ◌<◌, ◌≤◌, not, ◌&&◌, take, nat_le};
+ghost use Rattle.std.specs.Prelude.{◌≡◌, ◌+◌, ◌<◌, ◌≤◌, not, ◌&&◌, length, nat_le};
 ghost use Rattle.std.specs.List.{AllByRecursion};
 ghost use Rattle.masks.specs.Chords.{chords};
 ghost use Rattle.masks.specs.Lengths.{listed, ticked, reached, halved, rising, lengths, Serves};
 
 use crate::chord::{Chord, ChordList};
 use crate::mask::Mask;
+use arrayvec::ArrayVec;
+use std::marker::Model;
 
-// The lengths in rising order, from 1 on.
-#[derive(Clone, Copy)]
+// The lengths in rising order, from 1 on, in the value itself.
+#[derive(Drop)]
 pub struct LengthList {
-    list: [usize; 31],
-    count: usize,
-    ghost few: { count ≤ 31 },
+    list: ArrayVec<usize, 31>,
+}
+
+impl Model for LengthList {
+    ghost use Rattle.std.specs.Prelude.{ℕ, List};
+
+    ghost Value = { List ℕ };
+
+    ghost view = { λ l. l.list.items };
 }
 
 impl LengthList {
     // The length list of the mask. It begins with 1, no length is more than twice the one before it, and each chord's
     // length is in it.
     pub fn of(mask: &Mask) -> LengthList
-        ensures list { take result.count result.list ≡ lengths (chords mask.now.rows 31) }
+        ensures list { result ≡ lengths (chords mask.now.rows 31) }
         ensures serves { Serves (chords mask.now.rows 31) (lengths (chords mask.now.rows 31)) }
     {
         LengthList::of_chords(ChordList::of(mask).as_slice())
@@ -28,16 +36,19 @@ impl LengthList {
     // The length list of the chords.
     pub(crate) fn of_chords(chords: &[Chord]) -> LengthList
         requires { AllByRecursion (λ c. c.length < 32) chords.now }
-        ensures { take result.count result.list ≡ lengths chords.now }
+        ensures { result ≡ lengths chords.now }
     {
-        rising(&halved(ticked(chords)))
+        LengthList {
+            list: rising(&halved(ticked(chords))),
+        }
     }
 
     // The lengths as a slice.
     pub fn as_slice(&self) -> &[usize]
-        ensures { result.now ≡ take self.now.count self.now.list }
+        ensures items { result.now ≡ self.now }
+        ensures few { length result.now ≤ 31 }
     {
-        &self.list[0..self.count]
+        self.list.as_slice()
     }
 }
 
@@ -58,21 +69,19 @@ fn reached(ticks: &[bool; 32], a: usize) -> bool
     requires { a < 32 }
     ensures { result ≡ reached ticks.now a a }
 {
-    let mut found = false;
     for b in 0..a {
         if reaches(ticks, a, b) {
-            found = true;
+            return true;
         }
     }
-    found
+    false
 }
 
 // Whether b is listed and reaches a when doubled.
 fn reaches(ticks: &[bool; 32], a: usize, b: usize) -> bool
-    requires { b < 32 }
     ensures { result ≡ (listed ticks.now b && nat_le a (b + b)) }
 {
-    ticks[b] && a <= b + b
+    b < 32 && ticks[b] && a <= b + b
 }
 
 // Whether half of a is to join: a is listed, and nothing listed below it reaches it when doubled.
@@ -97,16 +106,14 @@ fn halved(start: [bool; 32]) -> [bool; 32]
 }
 
 // The listed numbers from 1 on, in rising order.
-fn rising(ticks: &[bool; 32]) -> LengthList
-    ensures { take result.count result.list ≡ rising ticks.now 31 }
+fn rising(ticks: &[bool; 32]) -> ArrayVec<usize, 31>
+    ensures { result.items ≡ rising ticks.now 31 }
 {
-    let mut list = [0; 31];
-    let mut count = 0;
+    let mut list = ArrayVec::new();
     for a in 1..32 {
         if ticks[a] {
-            list[count] = a;
-            count += 1;
+            list.push(a);
         }
     }
-    LengthList { list, count }
+    list
 }

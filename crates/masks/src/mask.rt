@@ -54,6 +54,7 @@ impl Mask {
         ensures answer { result ≡ length (points self.now.rows 31) }
         ensures once { InOrder Earlier (points self.now.rows 31) }
     {
+        // As a sum over the rows, that the total fits would stay open.
         let mut n = 0;
         for r in 0..31 {
             n += row_count(&self.rows, r);
@@ -65,10 +66,8 @@ impl Mask {
     pub fn turned(&self) -> Mask
         ensures { (p : Point) → holds result.rows p ≡ holds self.now.rows (turned p) }
     {
-        let mut rows = [0; 31];
-        for r in 0..31 {
-            rows[r] = reversed(self.rows[30 - r]);
-        }
+        let mut rows = self.rows.map(reversed);
+        rows.reverse();
         Mask { rows }
     }
 }
@@ -93,12 +92,7 @@ fn grid_place(offset: i32) -> usize
 fn near_front(list: &[Point]) -> usize
     ensures { result ≡ prefix_len near list.now }
 {
-    for (i, p) in list.iter().enumerate() {
-        if !is_near(*p) {
-            return i;
-        }
-    }
-    list.len()
+    list.iter().take_while(|p| is_near(**p)).count()
 }
 
 // The rows that have just the listed points, all of which are near.
@@ -122,28 +116,17 @@ pub(crate) fn marked(rows: &[u32; 31], c: usize, r: usize) -> bool
 }
 
 // How many points stand in row r of the grid.
+#[tactic(auto, unfolding(crate::specs::Rows::columns))]
 fn row_count(rows: &[u32; 31], r: usize) -> usize
     ensures few { result ≤ 31 }
     ensures answer { result ≡ length (columns rows.now r 31) }
 {
-    let mut n = 0;
-    for c in 0..31 {
-        if marked(rows, c, r) {
-            n += 1;
-        }
-    }
-    n
+    (0..31).filter(|c| marked(rows, *c, r)).count()
 }
 
 // The word with its 31 low bits in the opposite order.
 fn reversed(word: u32) -> u32
     ensures { (c : ℕ) → c < 31 → bit c result ≡ bit (30 - c) word }
 {
-    let mut out = 0;
-    for c in 0..31 {
-        if bits::bit(word, 30 - c) {
-            out = bits::with_bit(out, c);
-        }
-    }
-    out
+    word.reverse_bits() >> 1
 }

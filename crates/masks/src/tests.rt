@@ -10,26 +10,24 @@ use std::test::Fail;
 #[test]
 fn points_end_at_15(rt: HostRuntime) {
     assert!(rt; Mask::from_points(&[Point { u: 15, v: -15 }]).is_ok());
-    assert!(rt; refused(&[Point { u: 16, v: 0 }]) == 8);
-    assert!(rt; refused(&[Point { u: 0, v: -16 }]) == 8);
-    assert!(rt;
+    assert_eq!(rt; refused(&[Point { u: 16, v: 0 }]), Some(8));
+    assert_eq!(rt; refused(&[Point { u: 0, v: -16 }]), Some(8));
+    assert_eq!(rt;
         refused(&[
             Point { u: 0, v: 0 },
             Point {
                 u: i32::MIN,
                 v: i32::MAX,
             },
-        ],) == 8
+        ]),
+        Some(8)
     );
-    assert!(rt; refused(&[]) == 7);
+    assert_eq!(rt; refused(&[]), Some(7));
 }
 
-// The number of the refusal, or 0.
-fn refused(list: &[Point]) -> u8 {
-    match Mask::from_points(list) {
-        Ok(_) => 0,
-        Err(fault) => fault.number(),
-    }
+// The number of the refusal, if there is one.
+fn refused(list: &[Point]) -> Option<u8> {
+    Mask::from_points(list).err().map(|fault| fault.number())
 }
 
 #[test]

@@ -10,10 +10,10 @@ use Rattle.masks.proofs.Runs.{chords_north, chords_south, northmost_chord, south
 use Rattle.masks.proofs.cost.rows.Goals as goal
 
 pub northmost-requires : goal.northmost-requires
-northmost-requires c = subst (AllByRecursion (λ ch. neg_ℤ (pos 15) ≤ℤ ch.v)) (sym (c.as_slice.ensures ∙ c.of-chords.ensures.list)) (chords_north c.args.mask.now.rows)
+northmost-requires c = subst (AllByRecursion (λ ch. neg_ℤ (pos 15) ≤ℤ ch.v)) (sym (c.as_slice.ensures.items ∙ c.of-chords.ensures.list)) (chords_north c.args.mask.now.rows)
 
 pub southmost-requires : goal.southmost-requires
-southmost-requires c = subst (AllByRecursion (λ ch. ch.v ≤ℤ pos 15)) (sym (c.as_slice-2.ensures ∙ c.of-chords.ensures.list)) (chords_south c.args.mask.now.rows)
+southmost-requires c = subst (AllByRecursion (λ ch. ch.v ≤ℤ pos 15)) (sym (c.as_slice-2.ensures.items ∙ c.of-chords.ensures.list)) (chords_south c.args.mask.now.rows)
 
 pub span-requires : goal.span-requires
 span-requires c =
@@ -28,9 +28,9 @@ returns c =
     let fn : SFits w32 c.northmost.result = search rules in
     let fs : SFits w32 c.southmost.result = search rules in
     let n : c.northmost.result ≡ northmost (points rows 31) =
-    c.northmost.ensures.answer ∙ ap (farthest {X = Chord} int_min (λ ch. ch.v)) (c.as_slice.ensures ∙ c.of-chords.ensures.list) ∙ northmost_chord rows in
+    c.northmost.ensures.answer ∙ ap (farthest {X = Chord} int_min (λ ch. ch.v)) (c.as_slice.ensures.items ∙ c.of-chords.ensures.list) ∙ northmost_chord rows in
     let s : c.southmost.result ≡ southmost (points rows 31) =
-    c.southmost.ensures.answer ∙ ap (farthest {X = Chord} int_max (λ ch. ch.v)) (c.as_slice-2.ensures ∙ c.of-chords.ensures.list) ∙ southmost_chord rows in
+    c.southmost.ensures.answer ∙ ap (farthest {X = Chord} int_max (λ ch. ch.v)) (c.as_slice-2.ensures.items ∙ c.of-chords.ensures.list) ∙ southmost_chord rows in
     record {
       few = c.span.ensures.few;
       answer =

@@ -1,5 +1,5 @@
 -- A turn takes one chord's row in.
-use Rattle.std.proofs.Common.{◌≡◌, get_or, take, ℤ, pos, ◌≤ℤ◌, sym, ap, ◌∙◌, ap₂, arith, w32, SFits, rules}
+use Rattle.std.proofs.Common.{◌≡◌, get_or, take, ℤ, pos, ◌≤ℤ◌, sym, ap, ◌∙◌, ap₂, arith, w32, SFits, to_z, of_z, rules}
 use Rattle.std.specs.Int.{int_max}
 use Rattle.std.proofs.ByRecursion.{All-get_or}
 use Rattle.std.proofs.lemmas.List.{take_all}
@@ -7,6 +7,7 @@ use Rattle.std.proofs.lemmas.Int.{ints, clamps, to_z-of_z}
 use Rattle.std.proofs.lemmas.List.Sums.{fold_more}
 use Rattle.masks.specs.Cost.{farthest}
 use Rattle.masks.specs.declared.chord.Chord.{Chord}
+use Rattle.masks.proofs.Extremes.{greatest_of}
 use Rattle.masks.proofs.cost.southmost.Goals as goal
 
 abbrev none : Chord
@@ -18,14 +19,14 @@ loop-c-preserved c =
     let i = c.loop-c.c-index in
     let row = (get_or cs i none).v in
     let fits : SFits w32 row = search rules in
-    let fit : SFits w32 c.greater-south.result = search rules in
+    let fit : SFits w32 c.max-south.result = search rules in
     let bound = All-get_or (λ d. d.v ≤ℤ pos 15) cs i none c.loop-c-test.true c.requires in
-    let e : c.greater-south.result ≡ int_max c.loop-c.south row =
-    c.greater-south.ensures ∙ ap₂ int_max c.loop-c.south-is (to_z-of_z w32 row fits) in
+    let e : c.max-south.result ≡ int_max c.loop-c.south row =
+    c.max-south.ensures ∙ greatest_of (to_z w32 c.loop-c.south-bits) (to_z w32 (of_z w32 row)) ∙ ap₂ int_max c.loop-c.south-is (to_z-of_z w32 row fits) in
     let sofar : c.loop-c.south ≡ farthest int_max (λ d. d.v) (take i cs) = sym c.loop-c.south-is ∙ c.loop-c.invariant.2 in (
       omega (arith, ints, clamps, c.loop-c.invariant.0, c.loop-c.invariant.1),
       omega (arith, ints, clamps, c.loop-c.invariant.0, c.loop-c.invariant.1),
-      to_z-of_z w32 c.greater-south.result fit
+      to_z-of_z w32 c.max-south.result fit
           ∙ e
           ∙ ap (λ (z : ℤ). int_max z row) sofar
           ∙ sym (fold_more (λ z d. int_max z d.v) (pos 0) cs i none c.loop-c-test.true),

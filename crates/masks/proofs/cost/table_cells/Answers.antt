@@ -11,7 +11,7 @@ unfolding table_cells
 returns c =
     let rows = c.args.mask.now.rows in
     let w = c.args.width in
-    let n = ap length (c.as_slice.ensures ∙ c.of.ensures.list) in
+    let n = ap length (c.as_slice.ensures.items ∙ c.of.ensures.list) in
     c.saturating_mul.ensures
     ∙ ap (λ (k : ℕ). capped (k * (c.rows.result * length c.as_slice.result.now))) c.saturating_add.ensures
     ∙ cap_mul_left (w + 30) (c.rows.result * length c.as_slice.result.now)

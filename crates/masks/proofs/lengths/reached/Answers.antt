@@ -1,14 +1,11 @@
--- One number more that may reach a.
-use Rattle.std.proofs.Common.{◌∙◌, arith}
-use Rattle.std.proofs.lemmas.Bool.Decides.{nat_tests}
-use Rattle.masks.proofs.Halving.{reached_more}
+-- One number that reaches a is enough; where none of those passed does, the next one decides.
+use Rattle.std.proofs.Common.{sym, ◌∙◌}
+use Rattle.std.proofs.lemmas.Bool.{or_from}
+use Rattle.masks.proofs.Halving.{reached_more, reached_by}
 use Rattle.masks.proofs.lengths.reached.Goals as goal
-use Rattle.masks.proofs.lengths.reached.Goals.{then-reaches, else-reaches}
+
+pub returns-then-reaches : goal.returns-then-reaches
+returns-then-reaches c = sym (reached_by c.args.ticks.now c.args.a c.loop-b.b c.args.a c.loop-b-test.true (sym c.if-reaches.ensures))
 
 pub loop-b-preserved : goal.loop-b-preserved
-loop-b-preserved c =
-    let more = reached_more c.args.ticks.now c.args.a c.loop-b.b in
-    elim c.if-reaches.branch [
-      | then-reaches w ↦ let e = w.if-reaches.ensures in w.found-is ∙ grind (arith, nat_tests)
-      | else-reaches w ↦ let e = w.if-reaches.ensures in let i = c.loop-b.invariant in w.found-is ∙ grind (arith, nat_tests)
-    ]
+loop-b-preserved c = reached_more c.args.ticks.now c.args.a c.loop-b.b ∙ or_from _ _ c.loop-b.invariant (sym c.if-reaches.ensures)

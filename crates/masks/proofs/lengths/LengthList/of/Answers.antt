@@ -11,7 +11,7 @@ use Rattle.masks.proofs.lengths.LengthList.of.Goals as goal
 pub of_chords-requires : goal.of_chords-requires
 of_chords-requires c =
     let rows = c.args.mask.now.rows in
-    subst (AllByRecursion (λ ch. ch.length < 32)) (sym (c.as_slice.ensures ∙ c.of.ensures.list))
+    subst (AllByRecursion (λ ch. ch.length < 32)) (sym (c.as_slice.ensures.items ∙ c.of.ensures.list))
     (All-weaker (λ ch. (1 ≤ ch.length) × (ch.length < 32)) (λ ch. ch.length < 32) (λ ch p. p.1) (chords rows 31) (chord_sizes rows))
 
 pub returns : goal.returns
@@ -19,6 +19,6 @@ returns c =
     let rows = c.args.mask.now.rows in
     let some = some_chord rows c.args.mask.now.some in
     record {
-      list = c.of_chords.ensures ∙ ap lengths (c.as_slice.ensures ∙ c.of.ensures.list);
+      list = c.of_chords.ensures ∙ ap lengths (c.as_slice.ensures.items ∙ c.of.ensures.list);
       serves = lengths_serve (chords rows 31) some.0 some.1 (chord_sizes rows);
     }

@@ -1,8 +1,7 @@
 -- The chords lie in the grid, and none further north than the northmost; so the plan is the mask's.
-use Rattle.std.proofs.Common.{◌≡◌, ℕ, ◌-◌, ◌≤◌, List, map, length, take, pos, ◌+ℤ◌, sym, ap, ◌∙◌, subst, arith}
+use Rattle.std.proofs.Common.{◌≡◌, ℕ, ◌-◌, ◌≤◌, List, map, length, take, pos, ◌+ℤ◌, sym, ap, ◌∙◌, subst}
 use Rattle.std.specs.Int.{int_min}
 use Rattle.std.specs.List.{AllByRecursion}
-use Rattle.std.proofs.lemmas.List.{length-take}
 use Rattle.masks.specs.Cost.{farthest}
 use Rattle.masks.specs.declared.chord.Chord.{Chord}
 use Rattle.masks.specs.Rows.{points}
@@ -15,21 +14,18 @@ use Rattle.plans.proofs.MaskPlans.{in_grid, from_first, mask_plan}
 use Rattle.plans.proofs.plan.Plan.of.Goals as goal
 
 pub northmost-north-requires : goal.northmost-north-requires
-northmost-north-requires c = subst (AllByRecursion InGrid) (sym (c.as_slice-chords.ensures ∙ c.of-chord_list.ensures.list)) (in_grid c.args.mask.now.rows)
+northmost-north-requires c = subst (AllByRecursion InGrid) (sym (c.as_slice-chords.ensures.items ∙ c.of-chord_list.ensures.list)) (in_grid c.args.mask.now.rows)
 
 pub copied-requires : goal.copied-requires
-copied-requires c =
-    let few = c.of-length_list.result.few in
-    omega (arith, few, ap length c.as_slice-lengths.ensures, length-take c.of-length_list.result.count c.of-length_list.result.list)
+copied-requires c = c.as_slice-lengths.ensures.few
 
 pub placed-requires : goal.placed-requires
 placed-requires c =
     let ws = c.args.mask.now.rows in
-    let few = c.of-chord_list.result.few in
-    let ex = c.as_slice-chords.ensures ∙ c.of-chord_list.ensures.list in
+    let ex = c.as_slice-chords.ensures.items ∙ c.of-chord_list.ensures.list in
     let A : pos c.northmost-north.result ≡ north ws +ℤ pos 15 =
     c.northmost-north.ensures.answer ∙ ap (λ (l : List Chord). farthest int_min (λ d. d.v) l +ℤ pos 15) ex in (
-      omega (arith, few, ap length c.as_slice-chords.ensures, length-take c.of-chord_list.result.count c.of-chord_list.result.list),
+      c.as_slice-chords.ensures.few,
       subst (AllByRecursion (From c.northmost-north.result)) (sym ex) (from_first ws c.northmost-north.result A),
     )
 
@@ -43,12 +39,8 @@ returns c =
     let ys = c.as_slice-lengths.result.now in
     let cs = chords ws 31 in
     let ns = lengths (chords ws 31) in
-    let ex : xs ≡ cs = c.as_slice-chords.ensures ∙ c.of-chord_list.ensures.list in
-    let ey : ys ≡ ns = c.as_slice-lengths.ensures ∙ c.of-length_list.ensures.list in
-    let few_x : length xs ≤ 496 =
-    omega (arith, c.of-chord_list.result.few, ap length c.as_slice-chords.ensures, length-take c.of-chord_list.result.count c.of-chord_list.result.list) in
-    let few_y : length ys ≤ 31 =
-    omega (arith, c.of-length_list.result.few, ap length c.as_slice-lengths.ensures, length-take c.of-length_list.result.count c.of-length_list.result.list) in
+    let ex : xs ≡ cs = c.as_slice-chords.ensures.items ∙ c.of-chord_list.ensures.list in
+    let ey : ys ≡ ns = c.as_slice-lengths.ensures.items ∙ c.of-length_list.ensures.list in
     let A : pos first ≡ north ws +ℤ pos 15 =
     c.northmost-north.ensures.answer ∙ ap (λ (l : List Chord). farthest int_min (λ d. d.v) l +ℤ pos 15) ex in
     let L : take (length ns) arr ≡ ns = subst (λ (l : List ℕ). take (length l) arr ≡ l) ey c.copied.ensures in
@@ -56,6 +48,6 @@ returns c =
     subst (λ (l : List Chord). take (length l) out ≡ map (planned first ns) l) ex
     (subst (λ (l : List ℕ). take (length xs) out ≡ map (planned first l) xs) ey c.placed.ensures) in
     let P = mask_plan ws c.args.mask.now.some first c.rows.result arr out A c.rows.ensures.answer c.rows.ensures.few L
-    (subst (λ (l : List ℕ). length l ≤ 31) ey few_y) O (subst (λ (l : List Chord). length l ≤ 496) ex few_x) in
+    (subst (λ (l : List ℕ). length l ≤ 31) ey c.as_slice-lengths.ensures.few) O (subst (λ (l : List Chord). length l ≤ 496) ex c.as_slice-chords.ensures.few) in
     subst (λ (n : ℕ). PlanOf ws (points ws 31) (record { above = 15 - first; rows = c.rows.result; lengths = arr; sizes = n; chords = out; count = length xs })) (sym (ap length ey))
     (subst (λ (n : ℕ). PlanOf ws (points ws 31) (record { above = 15 - first; rows = c.rows.result; lengths = arr; sizes = length ns; chords = out; count = n })) (sym (ap length ex)) P)
