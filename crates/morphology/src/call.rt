@@ -30,3 +30,18 @@ pub enum Answer {
     // The filter is refused, and nothing is altered.
     Refused(Refusal),
 }
+
+// What a filter gives back, as the answer to a call.
+impl From<Result<u64, Refusal>> for Answer {
+    ghost use Rattle.std.specs.Prelude.{◌≡◌};
+    ghost use Rattle.morphology.specs.Calls.{reply};
+
+    ghost from_gives = { λ r a. a ≡ reply r };
+
+    fn from(given: Result<u64, Refusal>) -> Answer {
+        match given {
+            Ok(picks) => Answer::Picks(picks),
+            Err(refusal) => Answer::Refused(refusal),
+        }
+    }
+}

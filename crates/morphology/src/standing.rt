@@ -1,36 +1,19 @@
 // Which sheet stands after openings and closings under one mask.
 ghost use Rattle.std.specs.Prelude.{◌≡◌};
-ghost use Rattle.morphology.specs.FourSheets.{filter_of, other as other_of, same};
+ghost use Rattle.morphology.specs.FourSheets.{filter_of, other as other_of};
 ghost use Rattle.morphology.specs.Standing.{Follows};
 
 use crate::call::Filter;
 use cells::kind::Kind;
 
 // The two sorts of filter.
-#[derive(Clone, Copy, PartialEq, Eq)]
+#[derive(Clone, Copy, PartialEq, Eq, Debug)]
 pub enum Sort {
     Opening,
     Closing,
 }
 
 impl Sort {
-    // The filter of this sort.
-    pub fn filter(self) -> Filter
-        ensures { result ≡ filter_of self }
-    {
-        match self {
-            Sort::Opening => Filter::Open,
-            Sort::Closing => Filter::Close,
-        }
-    }
-
-    // Whether both are one sort.
-    pub fn is(self, other: Sort) -> bool
-        ensures { result ≡ same self other }
-    {
-        self == other
-    }
-
     // The other sort.
     pub fn other(self) -> Sort
         ensures { result ≡ other_of self }
@@ -42,8 +25,20 @@ impl Sort {
     }
 }
 
+// The filter of a sort.
+impl From<Sort> for Filter {
+    ghost from_gives = { λ q f. f ≡ filter_of q };
+
+    fn from(sort: Sort) -> Filter {
+        match sort {
+            Sort::Opening => Filter::Open,
+            Sort::Closing => Filter::Close,
+        }
+    }
+}
+
 // The name of a sheet: the loaded one, or filtered by a sort, then by the other sort, then by the first again.
-#[derive(Clone, Copy, PartialEq, Eq)]
+#[derive(Clone, Copy, PartialEq, Eq, Debug)]
 pub enum Standing {
     Loaded,
     Once(Sort),
@@ -59,21 +54,14 @@ impl Standing {
         match self {
             Standing::Loaded => Standing::Once(sort),
             Standing::Once(first) => {
-                if sort.is(first) {
+                if sort == first {
                     Standing::Once(first)
                 } else {
                     Standing::Twice(first)
                 }
             }
-            Standing::Twice(first) => {
-                if sort.is(first) {
-                    Standing::Thrice(first)
-                } else {
-                    Standing::Twice(first)
-                }
-            }
-            Standing::Thrice(first) => {
-                if sort.is(first) {
+            Standing::Twice(first) | Standing::Thrice(first) => {
+                if first == sort {
                     Standing::Thrice(first)
                 } else {
                     Standing::Twice(first)

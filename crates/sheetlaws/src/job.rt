@@ -8,7 +8,7 @@ use drawings::drawing::Drawing;
 use drawings::drawn::mask_of;
 use masks::cost;
 use masks::mask::Mask;
-use morphology::call::Call;
+use morphology::call::{Call, Filter};
 use morphology::standing::Sort;
 use sheets::holder::Size;
 use std::alloc::{AllocFailed, Global};
@@ -41,7 +41,7 @@ impl Pass {
     pub fn call(self, room: usize) -> Call
         ensures { result ≡ pass_call room self }
     {
-        Call::Apply(self.sort.filter(), self.cells.unwrap_or(room))
+        Call::Apply(Filter::from(self.sort), self.cells.unwrap_or(room))
     }
 }
 

@@ -55,13 +55,6 @@ module _ {K C S : Type 0} (k : Lattice C) (f : K → C) (sheet : S → Sheet K) 
         table = ap length o;
       }
 
--- without a mask
-module _ {K C S : Type 0} (k : Lattice C) (f : K → C) (sheet : S → Sheet K) (q : Filter) (w : Worksheet S) (t : List K) (r : Refusal) where
-  pub refuses_unmasked : (o : Option Mask) → w.mask ≡ o → ((n : ℕ) → judged (sheet w.holder).width (sheet w.holder).height o n ≡ Err r) →
-      Performed k f sheet q w w t t (Err r)
-  refuses_unmasked o e u =
-      refuses k f sheet q w w t t r (ap (λ p. judged (sheet w.holder).width (sheet w.holder).height p (length t)) e ∙ u (length t)) refl refl refl
-
 -- a filter `both` that is the filter `one`, and then the filter `two`
 pub record Halves (one two both : Filter) : Type 1 where
   pub sheets : {C : Type 0} (k : Lattice C) (m : Mask) (g : Sheet C) → filtered k both m g ≡ filtered k two m (filtered k one m g)

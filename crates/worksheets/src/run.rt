@@ -1,6 +1,5 @@
 // Lists of calls on one worksheet.
 ghost use Rattle.std.specs.Prelude.{◌≡◌, length};
-ghost use Rattle.morphology.specs.Calls.{reply};
 ghost use Rattle.morphology.specs.Laws.{Adjunction};
 ghost use Rattle.morphology.specs.FourSheets.{FourSheets};
 ghost use Rattle.worksheets.specs.Performed.{Performed};
@@ -44,7 +43,7 @@ where
             }
             Call::Apply(filter, cells) => {
                 let room = (*cells).min(table.len());
-                answer_of(self.apply(*filter, &mut table[0..room]))
+                Answer::from(self.apply(*filter, &mut table[0..room]))
             }
         }
     }
@@ -59,15 +58,5 @@ where
             Filter::Open => self.open(table),
             Filter::Close => self.close(table),
         }
-    }
-}
-
-// The answer to a call that applies a filter.
-fn answer_of(res: Result<u64, Refusal>) -> Answer
-    ensures { result ≡ reply res }
-{
-    match res {
-        Ok(picks) => Answer::Picks(picks),
-        Err(refusal) => Answer::Refused(refusal),
     }
 }

@@ -1,5 +1,5 @@
 // A worksheet, and its five calls: lay, erode, dilate, open and close.
-ghost use Rattle.std.specs.Prelude.{◌≡◌, ℕ, Some, None, Err};
+ghost use Rattle.std.specs.Prelude.{◌≡◌, ℕ, Some, None, Err, MatchResult};
 ghost use Rattle.sheets.specs.Sheet.{shown};
 ghost use Rattle.morphology.specs.Calls.{new, verdict, after};
 ghost use Rattle.morphology.specs.Refusals.{judged};
@@ -59,20 +59,16 @@ where
     pub fn erode(&mut self, table: &mut [H::Cell]) -> Result<u64, Refusal>
         ensures { Performed H.Cell.Kind.lattice H.Cell.Kind.means H.Holder.sheet Erode self.old self.new table.old table.new result }
     {
-        match self.mask {
-            Some(mask) => filter::erode(&mut self.holder, &mask, table),
-            None => Err(unmasked(&self.holder)),
-        }
+        let mask = self.laid()?;
+        filter::erode(&mut self.holder, &mask, table)
     }
 
     // Dilates the sheet, likewise.
     pub fn dilate(&mut self, table: &mut [H::Cell]) -> Result<u64, Refusal>
         ensures { Performed H.Cell.Kind.lattice H.Cell.Kind.means H.Holder.sheet Dilate self.old self.new table.old table.new result }
     {
-        match self.mask {
-            Some(mask) => filter::dilate(&mut self.holder, &mask, table),
-            None => Err(unmasked(&self.holder)),
-        }
+        let mask = self.laid()?;
+        filter::dilate(&mut self.holder, &mask, table)
     }
 
     // Opens the sheet: an erosion, and then a dilation. The answer is the picks of both.
@@ -97,8 +93,16 @@ where
     pub(crate) fn judge(&self, cells: usize) -> Result<Mask, Refusal>
         ensures { result ≡ verdict (state H.Cell.Kind.means H.Holder.sheet self.now) cells }
     {
+        let mask = self.laid()?;
+        filter::judge(self.holder.size(), &mask, cells)
+    }
+
+    // The mask that lies, or why each filter is refused where none does.
+    fn laid(&self) -> Result<Mask, Refusal>
+        ensures { MatchResult result (λ m. self.now.mask ≡ Some m) (λ r. (n : ℕ) → verdict (state H.Cell.Kind.means H.Holder.sheet self.now) n ≡ Err r) }
+    {
         match self.mask {
-            Some(mask) => filter::judge(self.holder.size(), &mask, cells),
+            Some(mask) => Ok(mask),
             None => Err(unmasked(&self.holder)),
         }
     }

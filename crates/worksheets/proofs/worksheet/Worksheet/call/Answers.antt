@@ -14,4 +14,4 @@ returns-in-Apply g c =
     let m = c.min-room.result - 0 in
     let room : m ≡ min c.in-Apply.cells (length t) = omega (arith, c.min-room.ensures) in
     let P = applied k f sheet c.in-Apply.filter w c.apply.new.self t _ c.apply.new.table c.in-Apply.cells m c.apply.result room refl c.apply.ensures in
-    subst₂ (λ d a. Called k f sheet d w c.apply.new.self t (c.apply.new.table ++ drop m t) a) (sym (ap (within (length t)) c.in-Apply.is)) (sym c.answer_of.ensures) P
+    subst₂ (λ d a. Called k f sheet d w c.apply.new.self t (c.apply.new.table ++ drop m t) a) (sym (ap (within (length t)) c.in-Apply.is)) (sym c.from.ensures) P
