@@ -6,6 +6,7 @@ ghost use Rattle.drawings.specs.Readings.{sign_front, origin_of, point_marks, po
 
 use masks::point::Point;
 use std::alloc::{AllocError, Global};
+use std::fmt;
 
 // Where a character stands; lines and columns count from 1.
 #[derive(Clone, Copy, PartialEq, Eq, Debug)]
@@ -34,6 +35,30 @@ pub enum DrawingFault {
     Memory,
 }
 
+impl fmt::Display for Place {
+    fn fmt<W: fmt::Write>(&self, f: &mut fmt::Formatter<W>) -> fmt::Result {
+        write!(f, "line {} column {}", self.line, self.column)
+    }
+}
+
+impl fmt::Display for DrawingFault {
+    fn fmt<W: fmt::Write>(&self, f: &mut fmt::Formatter<W>) -> fmt::Result {
+        match self {
+            DrawingFault::OtherCharacter(place) => {
+                write!(f, "{place}: a drawing has only # . @ and o")
+            }
+            DrawingFault::NoOrigin => write!(
+                f,
+                "the origin is not marked, @ where it is a point and o where it is not"
+            ),
+            DrawingFault::SecondOrigin(place) => {
+                write!(f, "{place}: the origin is marked a second time")
+            }
+            DrawingFault::Memory => write!(f, "there is not enough memory"),
+        }
+    }
+}
+
 impl From<AllocError> for DrawingFault {
     ghost from_gives = { λ _ r. r ≡ Memory };
 
@@ -42,7 +67,8 @@ impl From<AllocError> for DrawingFault {
     }
 }
 
-// A drawing that was read: its points in reading order, and where each was drawn.
+// A drawing that was read: its points in reading order, and where each was drawn. They are two lists, since a mask is made
+// from a lent slice of points.
 #[derive(Drop)]
 pub struct Drawing {
     dots: Vec<Mark>,
@@ -72,11 +98,7 @@ impl Drawing {
     pub fn place(&self, i: usize) -> Option<Place>
         ensures { result ≡ place_at self.now i }
     {
-        if i < self.dots.len() {
-            Some(self.dots[i].place)
-        } else {
-            None
-        }
+        self.dots.get(i).map(|m| m.place)
     }
 }
 
@@ -104,34 +126,25 @@ fn origin_of(marks: &[Mark]) -> Result<Place, DrawingFault>
             found = Some(m.place);
         }
     }
-    match found {
-        Some(place) => Ok(place),
-        None => Err(DrawingFault::NoOrigin),
-    }
+    found.ok_or(DrawingFault::NoOrigin)
 }
 
 // The marks that are points.
 fn point_marks(heap: Global, marks: &[Mark]) -> Result<Vec<Mark>, AllocError>
     ensures { IfOk result (λ v. v.items ≡ point_marks marks.now) }
 {
-    let mut dots = Vec::new(heap);
-    for m in marks {
-        if is_point(m.sign) {
-            dots.push(*m)?;
-        }
-    }
-    Ok(dots)
+    marks
+        .iter()
+        .copied()
+        .filter(|m| is_point(m.sign))
+        .collect(heap)
 }
 
 // The points that the marks are, seen from the origin.
 fn points_from(heap: Global, dots: &[Mark], origin: Place) -> Result<Vec<Point>, AllocError>
     ensures { IfOk result (λ v. v.items ≡ map (λ m. point_of origin m.place) dots.now) }
 {
-    let mut points = Vec::new(heap);
-    for m in dots {
-        points.push(point_of(origin, m.place))?;
-    }
-    Ok(points)
+    dots.iter().map(|m| point_of(origin, m.place)).collect(heap)
 }
 
 // The point at a place, seen from the origin's place.
@@ -149,20 +162,11 @@ fn offset(from: usize, to: usize) -> i32
     ensures { result ≡ offset from to }
 {
     if from <= to {
-        let ahead = to - from;
-        if ahead < 0x7fff_ffff {
-            ahead as i32
-        } else {
-            i32::MAX
-        }
+        i32::try_from(to - from).unwrap_or(i32::MAX)
     } else {
-        let behind = from - to;
-        if behind < 0x7fff_ffff {
-            -(behind as i32)
-        } else if behind == 0x7fff_ffff {
-            -i32::MAX
-        } else {
-            i32::MIN
+        match i32::try_from(from - to) {
+            Ok(behind) => -behind,
+            Err(_) => i32::MIN,
         }
     }
 }
@@ -213,12 +217,7 @@ fn all_marks(heap: Global, lines: &[String]) -> Result<Vec<Mark>, AllocError>
 fn signs(marks: &[Mark]) -> usize
     ensures { result ≡ sign_front marks.now }
 {
-    for (i, m) in marks.iter().enumerate() {
-        if !is_sign(m.sign) {
-            return i;
-        }
-    }
-    marks.len()
+    marks.iter().take_while(|m| is_sign(m.sign)).count()
 }
 
 fn is_sign(b: u8) -> bool

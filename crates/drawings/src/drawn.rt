@@ -48,48 +48,21 @@ fn blame(drawing: &Drawing, fault: MaskFault) -> DrawnFault
 impl fmt::Display for DrawnFault {
     fn fmt<W: fmt::Write>(&self, f: &mut fmt::Formatter<W>) -> fmt::Result {
         match self {
-            DrawnFault::Unread(fault) => show_drawing(*fault, f),
-            DrawnFault::Refused(fault, place) => show_mask(*fault, *place, f),
+            DrawnFault::Unread(fault) => write!(f, "{fault}"),
+            DrawnFault::Refused(fault, None) => {
+                write!(f, "refused {}: {}", fault.number(), reason(*fault))
+            }
+            DrawnFault::Refused(fault, Some(place)) => {
+                write!(f, "refused {}: {place}: {}", fault.number(), reason(*fault))
+            }
         }
     }
 }
 
-fn show_drawing<W: fmt::Write>(fault: DrawingFault, f: &mut fmt::Formatter<W>) -> fmt::Result {
+// Why no mask can be made.
+fn reason(fault: MaskFault) -> &'static str {
     match fault {
-        DrawingFault::OtherCharacter(place) => {
-            show_place(place, f)?;
-            write!(f, "a drawing has only # . @ and o")
-        }
-        DrawingFault::NoOrigin => write!(
-            f,
-            "the origin is not marked, @ where it is a point and o where it is not"
-        ),
-        DrawingFault::SecondOrigin(place) => {
-            show_place(place, f)?;
-            write!(f, "the origin is marked a second time")
-        }
-        DrawingFault::Memory => write!(f, "there is not enough memory"),
+        MaskFault::NoPoints => "the drawing has no point",
+        MaskFault::Beyond(_) => "the point lies more than 15 from the origin",
     }
-}
-
-fn show_mask<W: fmt::Write>(
-    fault: MaskFault,
-    place: Option<Place>,
-    f: &mut fmt::Formatter<W>,
-) -> fmt::Result {
-    let number = fault.number();
-    write!(f, "refused {number}: ")?;
-    if let Some(place) = place {
-        show_place(place, f)?;
-    }
-    match fault {
-        MaskFault::NoPoints => write!(f, "the drawing has no point"),
-        MaskFault::Beyond(_) => write!(f, "the point lies more than 15 from the origin"),
-    }
-}
-
-fn show_place<W: fmt::Write>(place: Place, f: &mut fmt::Formatter<W>) -> fmt::Result {
-    let line = place.line;
-    let column = place.column;
-    write!(f, "line {line} column {column}: ")
 }

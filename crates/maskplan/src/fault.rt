@@ -1,10 +1,10 @@
 // What can be wrong with the input, and the line that says so.
 ghost use Rattle.std.specs.Prelude.{◌≡◌};
-ghost use Rattle.maskplan.specs.declared.fault.PlanFault.TheVariants.{Drawing, Memory, Input};
+ghost use Rattle.drawings.specs.declared.drawn.DrawnFault.TheVariants.{Unread};
+ghost use Rattle.maskplan.specs.declared.fault.PlanFault.TheVariants.{Drawn, Memory, Input};
 
-use drawings::drawing::{DrawingFault, Place};
+use drawings::drawing::DrawingFault;
 use drawings::drawn::DrawnFault;
-use masks::fault::MaskFault;
 use std::alloc::{AllocError, AllocFailed};
 use std::{fmt, io};
 
@@ -16,20 +16,26 @@ pub enum PlanFault {
     HeightIsNoNumber,
     // A width or a height of 0 or above 2,048, as the filters refuse it.
     WrongSize(u64, u64),
-    // The drawing cannot be read.
-    Drawing(DrawingFault),
-    // No mask can be made of the drawing's points; told with the place of the point that is to blame, if one is.
-    Mask(MaskFault, Option<Place>),
+    // The drawing draws no mask.
+    Drawn(DrawnFault),
     // The input is no text.
     Input,
     Memory,
 }
 
+impl From<DrawnFault> for PlanFault {
+    ghost from_gives = { λ f r. r ≡ Drawn f };
+
+    fn from(fault: DrawnFault) -> PlanFault {
+        PlanFault::Drawn(fault)
+    }
+}
+
 impl From<DrawingFault> for PlanFault {
-    ghost from_gives = { λ f r. r ≡ Drawing f };
+    ghost from_gives = { λ f r. r ≡ Drawn (Unread f) };
 
     fn from(fault: DrawingFault) -> PlanFault {
-        PlanFault::Drawing(fault)
+        PlanFault::Drawn(DrawnFault::from(fault))
     }
 }
 
@@ -78,8 +84,7 @@ impl fmt::Display for PlanFault {
                     "refused 9: the sheet is {width} by {height}; each goes from 1 to 2048"
                 )
             }
-            PlanFault::Drawing(fault) => write!(f, "{}", DrawnFault::Unread(*fault)),
-            PlanFault::Mask(fault, place) => write!(f, "{}", DrawnFault::Refused(*fault, *place)),
+            PlanFault::Drawn(fault) => write!(f, "{fault}"),
             PlanFault::Input => write!(f, "the drawing is no text"),
             PlanFault::Memory => write!(f, "there is not enough memory"),
         }

@@ -11,9 +11,7 @@ use std::io;
 
 // Prints each step of the plan.
 pub fn print(rt: &HostRuntime, drawing: &Drawing, mask: &Mask, size: Size) -> io::Result<()> {
-    let width = size.width;
-    let height = size.height;
-    println!(rt; "sheet {width} by {height}")?;
+    println!(rt; "sheet {} by {}", size.width, size.height)?;
     print_points(rt, drawing.points(), mask.count())?;
     print_picture(rt, mask, drawing.points())?;
     print_chords(rt, mask)?;
@@ -25,25 +23,17 @@ pub fn print(rt: &HostRuntime, drawing: &Drawing, mask: &Mask, size: Size) -> io
 fn print_points(rt: &HostRuntime, points: &[Point], count: usize) -> io::Result<()> {
     println!(rt; "points {count}")?;
     for p in points {
-        let u = p.u;
-        let v = p.v;
-        println!(rt; "  ({u}, {v})")?;
+        println!(rt; "  ({}, {})", p.u, p.v)?;
     }
     Ok(())
 }
 
 // The smallest rectangle that has every point and the origin.
 fn print_picture(rt: &HostRuntime, mask: &Mask, points: &[Point]) -> io::Result<()> {
-    let mut north = 0;
-    let mut south = 0;
-    let mut west = 0;
-    let mut east = 0;
-    for p in points {
-        north = p.v.min(north);
-        south = p.v.max(south);
-        west = p.u.min(west);
-        east = p.u.max(east);
-    }
+    let north = points.iter().fold(0, |least, p| p.v.min(least));
+    let south = points.iter().fold(0, |most, p| p.v.max(most));
+    let west = points.iter().fold(0, |least, p| p.u.min(least));
+    let east = points.iter().fold(0, |most, p| p.u.max(most));
     let mut columns = Vec::new(rt.alloc());
     for u in west..east.saturating_add(1) {
         columns.push(u)?;
@@ -61,10 +51,7 @@ fn print_chords(rt: &HostRuntime, mask: &Mask) -> io::Result<()> {
     let count = chords.as_slice().len();
     println!(rt; "chords {count}")?;
     for c in chords.as_slice() {
-        let v = c.v;
-        let start = c.start;
-        let length = c.length;
-        println!(rt; "  row {v}, from {start}, {length} long")?;
+        println!(rt; "  row {}, from {}, {} long", c.v, c.start, c.length)?;
     }
     Ok(())
 }
@@ -78,12 +65,8 @@ fn print_lengths(rt: &HostRuntime, mask: &Mask) -> io::Result<()> {
 }
 
 fn print_costs(rt: &HostRuntime, costs: Costs) -> io::Result<()> {
-    let rows = costs.rows;
-    let table = costs.table;
-    let filter = costs.filter;
-    let opening = costs.opening;
-    println!(rt; "rows {rows}")?;
-    println!(rt; "table {table} cells")?;
-    println!(rt; "erode or dilate {filter} picks")?;
-    println!(rt; "open or close {opening} picks")
+    println!(rt; "rows {}", costs.rows)?;
+    println!(rt; "table {} cells", costs.table)?;
+    println!(rt; "erode or dilate {} picks", costs.filter)?;
+    println!(rt; "open or close {} picks", costs.opening)
 }

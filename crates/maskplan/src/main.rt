@@ -11,8 +11,8 @@ mod plan;
 mod listing;
 
 use drawings::drawing::Drawing;
+use drawings::drawn::mask_of;
 use fault::PlanFault;
-use masks::mask::Mask;
 use plan::Size;
 use std::env;
 use std::process::ExitCode;
@@ -32,10 +32,8 @@ fn run(rt: &HostRuntime) -> Result<(), PlanFault> {
     let size = size(rt)?;
     let lines = input(rt)?;
     let drawing = Drawing::read(rt.alloc(), lines.as_slice())?;
-    match Mask::from_points(drawing.points()) {
-        Ok(mask) => Ok(listing::print(rt, &drawing, &mask, size)?),
-        Err(fault) => Err(plan::mask_fault(&drawing, fault)),
-    }
+    let mask = mask_of(&drawing)?;
+    Ok(listing::print(rt, &drawing, &mask, size)?)
 }
 
 // The two arguments, the sheet's width and height.
@@ -44,13 +42,13 @@ fn size(rt: &HostRuntime) -> Result<Size, PlanFault> {
     for word in env::args(rt)? {
         words.push(word)?;
     }
-    if words.len() != 3 {
+    let [_, width, height] = words.as_slice() else {
         return Err(PlanFault::Usage);
-    }
-    let Ok(width) = words[1].as_str().parse::<u64>() else {
+    };
+    let Ok(width) = width.as_str().parse::<u64>() else {
         return Err(PlanFault::WidthIsNoNumber);
     };
-    let Ok(height) = words[2].as_str().parse::<u64>() else {
+    let Ok(height) = height.as_str().parse::<u64>() else {
         return Err(PlanFault::HeightIsNoNumber);
     };
     plan::sized(width, height)

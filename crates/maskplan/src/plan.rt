@@ -2,13 +2,10 @@
 ghost use Rattle.std.specs.Prelude.{◌≡◌, ◌*◌, ◌&&◌, if◌then◌else◌, Ok, Err};
 ghost use Rattle.masks.specs.Cost.{spanned, table_cells, filter_picks, capped};
 ghost use Rattle.maskplan.specs.Sizes.{fits};
-ghost use Rattle.maskplan.specs.Told.{told};
 ghost use Rattle.maskplan.specs.declared.fault.PlanFault.TheVariants.{WrongSize};
 
 use crate::fault::PlanFault;
-use drawings::drawing::Drawing;
 use masks::cost;
-use masks::fault::MaskFault;
 use masks::mask::Mask;
 
 // A sheet's width and height.
@@ -57,15 +54,5 @@ pub fn priced(mask: &Mask, size: Size) -> Costs
         table: cost::table_cells(mask, size.width),
         filter: cost::filter_picks(mask, size.width, size.height),
         opening: cost::opening_picks(mask, size.width, size.height),
-    }
-}
-
-// The fault of a mask, with the place in the drawing of the point that is to blame.
-pub fn mask_fault(drawing: &Drawing, fault: MaskFault) -> PlanFault
-    ensures { result ≡ told drawing.now fault }
-{
-    match fault {
-        MaskFault::NoPoints => PlanFault::Mask(fault, None),
-        MaskFault::Beyond(i) => PlanFault::Mask(fault, drawing.place(i)),
     }
 }

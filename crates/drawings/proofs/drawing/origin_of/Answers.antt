@@ -1,9 +1,9 @@
 -- A turn passes a mark by, takes the first origin, or stops at the second.
-use Rattle.std.proofs.Common.{◌+◌, [], get_or, drop, Option, sym, ap, ◌∙◌}
+use Rattle.std.proofs.Common.{◌+◌, get_or, drop, Option, sym, ap, ◌∙◌}
 use Rattle.std.proofs.lemmas.List.{at_drop_more, at_drop_all}
 use Rattle.drawings.specs.Readings.{nowhere}
 use Rattle.drawings.specs.declared.drawing.Place.{Place}
-use Rattle.drawings.proofs.Origins.{resumed, pass_by, take_first, meet_second}
+use Rattle.drawings.proofs.Origins.{resumed, pass_by, take_first, meet_second, all_passed}
 use Rattle.drawings.proofs.drawing.origin_of.Goals as goal
 use Rattle.drawings.proofs.drawing.origin_of.Goals.{then-is_origin+else-is_some, else-is_origin}
 
@@ -34,12 +34,9 @@ loop-m-preserved c =
           ∙ c.loop-m.invariant
     ]
 
-pub returns-in-Some : goal.returns-in-Some
-returns-in-Some c =
-    let end = at_drop_all (resumed c.loop-m.found) c.args.marks.now c.loop-m.m-index c.loop-m-test.false in
-    sym (ap (λ (f : Option Place). resumed f []) c.in-Some.is) ∙ sym end ∙ c.loop-m.invariant
-
-pub returns-in-None : goal.returns-in-None
-returns-in-None c =
-    let end = at_drop_all (resumed c.loop-m.found) c.args.marks.now c.loop-m.m-index c.loop-m-test.false in
-    sym (ap (λ (f : Option Place). resumed f []) c.in-None.is) ∙ sym end ∙ c.loop-m.invariant
+pub returns : goal.returns
+returns c =
+    c.ok_or.ensures.value
+    ∙ sym (all_passed c.loop-m.found)
+    ∙ sym (at_drop_all (resumed c.loop-m.found) c.args.marks.now c.loop-m.m-index c.loop-m-test.false)
+    ∙ c.loop-m.invariant
