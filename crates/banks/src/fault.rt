@@ -1,23 +1,44 @@
 // What can be wrong with a job, and the line that says so.
 ghost use Rattle.std.specs.Prelude.{◌≡◌};
 ghost use Rattle.drawings.specs.declared.drawn.DrawnFault.TheVariants.{Unread as UnreadDrawing};
-ghost use Rattle.banks.specs.declared.fault.JobFault.TheVariants.{Rows, Drawn, Memory, Unwritten};
+ghost use Rattle.banks.specs.declared.fault.JobFault.TheVariants.{Sheet, Drawn, Memory, Unwritten};
 
 use drawings::drawing::DrawingFault;
 use drawings::drawn::DrawnFault;
 use std::alloc::{AllocError, AllocFailed};
 use std::{fmt, io};
-use texts::RowFault;
+use texts::SheetFault;
+
+// A part of a job, known by the word that begins it.
+#[derive(Clone, Copy, PartialEq, Eq, Debug)]
+pub enum Part {
+    Sheet,
+    Mask,
+    Fore,
+    Back,
+    List,
+}
+
+impl Part {
+    // The word that begins the part, which lines are compared with.
+    pub fn word(self) -> &'static str {
+        match self {
+            Part::Sheet => "sheet",
+            Part::Mask => "mask",
+            Part::Fore => "fore",
+            Part::Back => "back",
+            Part::List => "list",
+        }
+    }
+}
 
 // Lines are told by their number in the job, from 1.
 #[derive(Clone, Copy)]
 pub enum JobFault {
-    // No line has the word that begins this part, after those of the parts before it.
-    Missing(&'static str),
-    // A row of the sheet cannot be taken in.
-    Rows(RowFault),
-    // The sheet's width or height, told in this order, is 0 or above 2,048, as the filters refuse it.
-    WrongSize(usize, usize),
+    // No line begins the part, after those of the parts before it.
+    Missing(Part),
+    // The sheet cannot be taken in.
+    Sheet(SheetFault),
     // A drawing draws no mask.
     Drawn(DrawnFault),
     // The list has no length, or a length above 65,536.
@@ -30,11 +51,11 @@ pub enum JobFault {
     Memory,
 }
 
-impl From<RowFault> for JobFault {
-    ghost from_gives = { λ f r. r ≡ Rows f };
+impl From<SheetFault> for JobFault {
+    ghost from_gives = { λ f r. r ≡ Sheet f };
 
-    fn from(fault: RowFault) -> JobFault {
-        JobFault::Rows(fault)
+    fn from(fault: SheetFault) -> JobFault {
+        JobFault::Sheet(fault)
     }
 }
 
@@ -81,15 +102,12 @@ impl From<io::Error> for JobFault {
 impl fmt::Display for JobFault {
     fn fmt<W: fmt::Write>(&self, f: &mut fmt::Formatter<W>) -> fmt::Result {
         match self {
-            JobFault::Missing(word) => write!(
+            JobFault::Missing(part) => write!(
                 f,
-                "no line begins the {word}; a job has sheet, mask, fore, back and list, in this order"
+                "no line begins the {}; a job has sheet, mask, fore, back and list, in this order",
+                part.word()
             ),
-            JobFault::Rows(fault) => show_row(*fault, f),
-            JobFault::WrongSize(width, height) => write!(
-                f,
-                "refused 9: the sheet is {width} by {height}; each goes from 1 to 2048"
-            ),
+            JobFault::Sheet(fault) => { fault.tell("whole numbers of millimetres, of 32 bits", f) }
             JobFault::Drawn(fault) => write!(f, "{fault}"),
             JobFault::NoList(line) => write!(
                 f,
@@ -99,21 +117,5 @@ impl fmt::Display for JobFault {
             JobFault::Unwritten => write!(f, "the listing cannot be written"),
             JobFault::Memory => write!(f, "there is not enough memory"),
         }
-    }
-}
-
-fn show_row<W: fmt::Write>(fault: RowFault, f: &mut fmt::Formatter<W>) -> fmt::Result {
-    match fault {
-        RowFault::NoCell(line) => write!(
-            f,
-            "line {}: a row of the sheet has whole numbers of millimetres, of 32 bits",
-            line.saturating_add(1)
-        ),
-        RowFault::UnlikeRow(line) => write!(
-            f,
-            "line {}: this row has not as many cells as the first",
-            line.saturating_add(1)
-        ),
-        RowFault::Memory => write!(f, "there is not enough memory"),
     }
 }

@@ -1,16 +1,14 @@
 // A job as text: a grid of heights, the mask of a mid, the fore and the back mask of a find, and the length of a list.
-use crate::fault::JobFault;
+use crate::fault::{JobFault, Part};
 use cells::height::Height;
 use drawings::drawing::Drawing;
 use drawings::drawn::mask_of;
 use masks::mask::Mask;
 use sheets::holder::Size;
-use std::alloc::{AllocFailed, Global};
-use texts::{drawn_lines, heading, read_rows, setting, value_of};
+use std::alloc::Global;
+use texts::{drawn_lines, heading, read_sheet, setting, value_of};
 
-// The longest side of a sheet that is filtered, and the longest list of places.
-const LONGEST: usize = 2048;
-
+// The longest list of places.
 const MOST_PLACES: usize = 65_536;
 
 #[derive(Drop)]
@@ -26,15 +24,15 @@ pub struct Job {
 impl Job {
     // Reads the lines of a job. What stands before its sheet is passed over.
     pub fn read(alloc: Global, lines: &[String]) -> Result<Job, JobFault> {
-        let sheet = part(lines, 0, "sheet")?;
-        let mask = part(lines, sheet, "mask")?;
-        let fore = part(lines, mask, "fore")?;
-        let back = part(lines, fore, "back")?;
-        let list = setting(lines, back, "list").ok_or(JobFault::Missing("list"))?;
-        let (size, cells) = read_sheet(alloc, lines, sheet.saturating_add(1), mask)?;
+        let sheet = beginning(lines, 0, Part::Sheet)?;
+        let mask = beginning(lines, sheet, Part::Mask)?;
+        let fore = beginning(lines, mask, Part::Fore)?;
+        let back = beginning(lines, fore, Part::Back)?;
+        let list = beginning(lines, back, Part::List)?;
+        let (size, numbers) = read_sheet::<i32>(alloc, lines, sheet.saturating_add(1), mask)?;
         Ok(Job {
             size,
-            cells,
+            cells: numbers.iter().map(|n| Height(*n)).collect(alloc)?,
             mask: read_mask(alloc, lines, mask, fore)?,
             fore: read_mask(alloc, lines, fore, back)?,
             back: read_mask(alloc, lines, back, list)?,
@@ -43,32 +41,13 @@ impl Job {
     }
 }
 
-// The line that begins the part.
-fn part(lines: &[String], from: usize, word: &'static str) -> Result<usize, JobFault> {
-    heading(lines, from, word).ok_or(JobFault::Missing(word))
-}
-
-// The heights in the lines `from` to `end`, row by row, and their size.
-fn read_sheet(
-    alloc: Global,
-    lines: &[String],
-    from: usize,
-    end: usize,
-) -> Result<(Size, Vec<Height>), JobFault> {
-    let mut numbers: Vec<i32> = Vec::new(alloc);
-    let size = read_rows(lines, from, end, &mut numbers)?;
-    if size.height == 0 || size.width > LONGEST || size.height > LONGEST {
-        return Err(JobFault::WrongSize(size.width, size.height));
-    }
-    Ok((size, heights(alloc, numbers.as_slice())?))
-}
-
-fn heights(alloc: Global, numbers: &[i32]) -> Result<Vec<Height>, AllocFailed<Height>> {
-    let mut cells = Vec::new(alloc);
-    for number in numbers {
-        cells.push(Height(*number))?;
-    }
-    Ok(cells)
+// The first line from one on that begins the part: it has the part's word alone, or, of a list, as the first of its words.
+fn beginning(lines: &[String], from: usize, part: Part) -> Result<usize, JobFault> {
+    let found = match part {
+        Part::List => setting(lines, from, part.word()),
+        _ => heading(lines, from, part.word()),
+    };
+    found.ok_or(JobFault::Missing(part))
 }
 
 // The mask that is drawn between two lines.

@@ -42,22 +42,17 @@ impl Album {
 
     // The name that the first picture of these cells has.
     pub fn first_like(&self, cells: &[Gray]) -> Option<Standing> {
-        for p in self.pictures.iter() {
-            if p.cells.as_slice() == cells {
-                return Some(p.name);
-            }
-        }
-        None
+        self.pictures
+            .iter()
+            .find(|p| p.cells.as_slice() == cells)
+            .map(|p| p.name)
     }
 
     // How many different sheets there are.
     pub fn different(&self) -> usize {
-        let mut count: usize = 0;
-        for p in self.pictures.iter() {
-            if self.first_like(p.cells.as_slice()) == Some(p.name) {
-                count = count.saturating_add(1);
-            }
-        }
-        count
+        self.pictures
+            .iter()
+            .filter(|p| self.first_like(p.cells.as_slice()) == Some(p.name))
+            .count()
     }
 }

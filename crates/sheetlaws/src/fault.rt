@@ -1,13 +1,13 @@
 // What can be wrong with a job, and the line that says so.
 ghost use Rattle.std.specs.Prelude.{◌≡◌};
 ghost use Rattle.drawings.specs.declared.drawn.DrawnFault.TheVariants.{Unread as UnreadDrawing};
-ghost use Rattle.sheetlaws.specs.declared.fault.JobFault.TheVariants.{Rows, Drawn, Memory, Unwritten};
+ghost use Rattle.sheetlaws.specs.declared.fault.JobFault.TheVariants.{Sheet, Drawn, Memory, Unwritten};
 
 use drawings::drawing::DrawingFault;
 use drawings::drawn::DrawnFault;
 use std::alloc::{AllocError, AllocFailed};
 use std::{fmt, io};
-use texts::RowFault;
+use texts::SheetFault;
 
 // A part of a job, known by the word that begins it.
 #[derive(Clone, Copy, PartialEq, Eq, Debug)]
@@ -19,7 +19,7 @@ pub enum Part {
 }
 
 impl Part {
-    // The word that begins the part.
+    // The word that begins the part, which lines are compared with.
     pub fn word(self) -> &'static str {
         match self {
             Part::Sheet => "sheet",
@@ -35,10 +35,8 @@ impl Part {
 pub enum JobFault {
     // No line begins the part, after those of the parts before it.
     Missing(Part),
-    // A row of the sheet cannot be taken in.
-    Rows(RowFault),
-    // The sheet's width or height, told in this order, is 0 or above 2,048, as the filters refuse it.
-    WrongSize(usize, usize),
+    // The sheet cannot be taken in.
+    Sheet(SheetFault),
     // The drawing draws no mask.
     Drawn(DrawnFault),
     // The threshold is no gray, or 0.
@@ -55,11 +53,11 @@ pub enum JobFault {
     Memory,
 }
 
-impl From<RowFault> for JobFault {
-    ghost from_gives = { λ f r. r ≡ Rows f };
+impl From<SheetFault> for JobFault {
+    ghost from_gives = { λ f r. r ≡ Sheet f };
 
-    fn from(fault: RowFault) -> JobFault {
-        JobFault::Rows(fault)
+    fn from(fault: SheetFault) -> JobFault {
+        JobFault::Sheet(fault)
     }
 }
 
@@ -106,12 +104,12 @@ impl From<io::Error> for JobFault {
 impl fmt::Display for JobFault {
     fn fmt<W: fmt::Write>(&self, f: &mut fmt::Formatter<W>) -> fmt::Result {
         match self {
-            JobFault::Missing(part) => show_missing(*part, f),
-            JobFault::Rows(fault) => show_row(*fault, f),
-            JobFault::WrongSize(width, height) => write!(
+            JobFault::Missing(part) => write!(
                 f,
-                "refused 9: the sheet is {width} by {height}; each goes from 1 to 2048"
+                "no line begins the {}; a job has sheet, mask, threshold and calls, in this order",
+                part.word()
             ),
+            JobFault::Sheet(fault) => fault.tell("whole numbers from 0 to 255", f),
             JobFault::Drawn(fault) => write!(f, "{fault}"),
             JobFault::NoThreshold(line) => write!(
                 f,
@@ -126,29 +124,5 @@ impl fmt::Display for JobFault {
             JobFault::Unwritten => write!(f, "the listing cannot be written"),
             JobFault::Memory => write!(f, "there is not enough memory"),
         }
-    }
-}
-
-fn show_missing<W: fmt::Write>(part: Part, f: &mut fmt::Formatter<W>) -> fmt::Result {
-    let word = part.word();
-    write!(
-        f,
-        "no line begins the {word}; a job has sheet, mask, threshold and calls, in this order"
-    )
-}
-
-fn show_row<W: fmt::Write>(fault: RowFault, f: &mut fmt::Formatter<W>) -> fmt::Result {
-    match fault {
-        RowFault::NoCell(line) => write!(
-            f,
-            "line {}: a row of the sheet has whole numbers from 0 to 255",
-            line.saturating_add(1)
-        ),
-        RowFault::UnlikeRow(line) => write!(
-            f,
-            "line {}: this row has not as many cells as the first",
-            line.saturating_add(1)
-        ),
-        RowFault::Memory => write!(f, "there is not enough memory"),
     }
 }

@@ -2,6 +2,7 @@
 ghost use Rattle.std.specs.Prelude.{◌≡◌, ◌≤◌, ◌<◌, IfOk, length};
 
 use crate::fault::{JobFault, Part};
+use crate::names::call_name;
 use cells::gray::Gray;
 use cells::threshold::Threshold;
 use drawings::drawing::Drawing;
@@ -11,11 +12,9 @@ use masks::mask::Mask;
 use morphology::call::{Call, Filter};
 use morphology::standing::Sort;
 use sheets::holder::Size;
-use std::alloc::{AllocFailed, Global};
-use texts::{drawn_lines, heading, read_rows, setting, value_of};
-
-// The longest side of a sheet that is filtered.
-const LONGEST: usize = 2048;
+use std::alloc::Global;
+use std::fmt;
+use texts::{drawn_lines, heading, read_sheet, setting, value_of};
 
 // A job that was read. The sheet's cells lie row by row.
 #[derive(Drop)]
@@ -54,12 +53,12 @@ impl Job {
         let mask = beginning(lines, sheet, Part::Mask)?;
         let threshold = beginning(lines, mask, Part::Threshold)?;
         let calls = beginning(lines, threshold, Part::Calls)?;
-        let (size, cells) = read_sheet(heap, lines, sheet + 1, mask)?;
+        let (size, levels) = read_sheet::<u8>(heap, lines, sheet + 1, mask)?;
         let drawn = drawn_lines(heap, lines, mask + 1, threshold)?;
         let drawing = Drawing::read(heap, drawn.as_slice())?;
         Ok(Job {
             size,
-            cells,
+            cells: levels.iter().map(|level| Gray(*level)).collect(heap)?,
             mask: mask_of(&drawing)?,
             threshold: read_threshold(lines[threshold].as_str(), threshold + 1)?,
             passes: read_calls(heap, lines, calls + 1)?,
@@ -71,6 +70,16 @@ impl Job {
         ensures { result ≡ room self.now }
     {
         cost::table_cells(&self.mask, self.size.width as u64) as usize
+    }
+}
+
+impl fmt::Display for Pass {
+    fn fmt<W: fmt::Write>(&self, f: &mut fmt::Formatter<W>) -> fmt::Result {
+        let call = call_name(self.sort);
+        match self.cells {
+            Some(cells) => write!(f, "{call} with {cells} cells"),
+            None => write!(f, "{call}"),
+        }
     }
 }
 
@@ -86,29 +95,6 @@ fn beginning(lines: &[String], from: usize, part: Part) -> Result<usize, JobFaul
     found.ok_or(JobFault::Missing(part))
 }
 
-// The grays in the lines `from` to `end`, row by row, and their size.
-fn read_sheet(
-    heap: Global,
-    lines: &[String],
-    from: usize,
-    end: usize,
-) -> Result<(Size, Vec<Gray>), JobFault> {
-    let mut levels: Vec<u8> = Vec::new(heap);
-    let size = read_rows(lines, from, end, &mut levels)?;
-    if size.height == 0 || size.width > LONGEST || size.height > LONGEST {
-        return Err(JobFault::WrongSize(size.width, size.height));
-    }
-    Ok((size, grays(heap, levels.as_slice())?))
-}
-
-fn grays(heap: Global, levels: &[u8]) -> Result<Vec<Gray>, AllocFailed<Gray>> {
-    let mut cells = Vec::new(heap);
-    for level in levels {
-        cells.push(Gray(*level))?;
-    }
-    Ok(cells)
-}
-
 // The level that follows the word `threshold`.
 fn read_threshold(line: &str, number: usize) -> Result<Threshold, JobFault> {
     value_of::<u8>(line)
@@ -119,8 +105,8 @@ fn read_threshold(line: &str, number: usize) -> Result<Threshold, JobFault> {
 // The calls, from line `from` on.
 fn read_calls(heap: Global, lines: &[String], from: usize) -> Result<Vec<Pass>, JobFault> {
     let mut passes = Vec::new(heap);
-    for i in from..lines.len() {
-        if let Some(pass) = read_call(lines[i].as_str(), i + 1)? {
+    for (i, line) in lines.iter().enumerate().skip(from) {
+        if let Some(pass) = read_call(line.as_str(), i.saturating_add(1))? {
             passes.push(pass)?;
         }
     }

@@ -1,9 +1,9 @@
 // The report as text.
 use crate::album::{Album, Picture};
 use crate::fault::JobFault;
-use crate::job::{Job, Pass};
+use crate::job::Job;
 use crate::names::{call_name, reason, sheet_name};
-use crate::report::{Family, Report, Step};
+use crate::report::{Family, Report, Shown, Step};
 use cells::words::WordForm;
 use morphology::call::Answer;
 use morphology::refusal::Refusal;
@@ -22,13 +22,9 @@ pub fn print(rt: &HostRuntime, job: &Job, report: &Report) -> Result<(), JobFaul
 
 // The size of the sheet, the points of the mask, and the cells of the table that its filters need.
 fn print_job(rt: &HostRuntime, job: &Job) -> io::Result<()> {
-    let width = job.size.width;
-    let height = job.size.height;
-    let count = job.mask.count();
-    let room = job.table_cells();
-    println!(rt; "sheet {width} by {height}")?;
-    println!(rt; "points {count}")?;
-    println!(rt; "table {room} cells")
+    println!(rt; "sheet {} by {}", job.size.width, job.size.height)?;
+    println!(rt; "points {}", job.mask.count())?;
+    println!(rt; "table {} cells", job.table_cells())
 }
 
 // The loaded sheet, and each call with the sheet that it leaves.
@@ -38,21 +34,11 @@ fn print_steps(rt: &HostRuntime, job: &Job, report: &Report) -> Result<(), JobFa
         print_picture(rt, job, &report.shown, loaded)?;
     }
     for (i, step) in report.steps.iter().enumerate() {
-        let number = i.saturating_add(1);
-        print!(rt; "call {number}, ")?;
-        print_call(rt, step.pass)?;
+        print!(rt; "call {}, {}: ", i.saturating_add(1), step.pass)?;
         print_answer(rt, step.answer)?;
         print_step(rt, job, &report.shown, step)?;
     }
     Ok(())
-}
-
-fn print_call(rt: &HostRuntime, pass: Pass) -> io::Result<()> {
-    let call = call_name(pass.sort);
-    match pass.cells {
-        Some(cells) => print!(rt; "{call} with {cells} cells: "),
-        None => print!(rt; "{call}: "),
-    }
 }
 
 fn print_answer(rt: &HostRuntime, answer: Answer) -> io::Result<()> {
@@ -75,16 +61,19 @@ fn print_refusal(rt: &HostRuntime, refusal: Refusal) -> io::Result<()> {
 
 // The sheet after a step. It is drawn where its name is new.
 fn print_step(rt: &HostRuntime, job: &Job, shown: &Album, step: &Step) -> Result<(), JobFault> {
-    if step.is_new {
-        if let Some(picture) = shown.named(step.name) {
-            print_picture(rt, job, shown, picture)?;
+    match step.shown {
+        Shown::New(name) => {
+            if let Some(picture) = shown.named(name) {
+                print_picture(rt, job, shown, picture)?;
+            }
         }
-        return Ok(());
-    }
-    let name = sheet_name(step.name);
-    match step.answer {
-        Answer::Refused(_) => println!(rt; "still {name}")?,
-        _ => println!(rt; "again {name}")?,
+        Shown::Again(name) => {
+            let again = match step.answer {
+                Answer::Refused(_) => "still",
+                _ => "again",
+            };
+            println!(rt; "{again} {}", sheet_name(name))?;
+        }
     }
     Ok(())
 }
@@ -170,16 +159,12 @@ fn print_threshold(rt: &HostRuntime, job: &Job, report: &Report) -> Result<(), J
 
 // The rows of a sheet, the words of its cells parted by blanks.
 fn print_rows<K: WordForm>(rt: &HostRuntime, job: &Job, cells: &[K]) -> Result<(), JobFault> {
-    let mut row = String::new(rt.alloc());
-    let mut width: usize = 0;
-    for cell in cells {
-        write!(row, " {}", cell.to_word())?;
-        width = width.saturating_add(1);
-        if width == job.size.width {
-            println!(rt; " {row}")?;
-            row = String::new(rt.alloc());
-            width = 0;
+    for row in cells.chunks(job.size.width.max(1)) {
+        print!(rt; " ")?;
+        for cell in row {
+            print!(rt; " {}", cell.to_word())?;
         }
+        println!(rt)?;
     }
     Ok(())
 }

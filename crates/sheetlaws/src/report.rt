@@ -8,14 +8,19 @@ use morphology::call::Answer;
 use morphology::standing::{Sort, Standing};
 use std::alloc::{AllocError, Global};
 
+// The sheet that a call showed, by its name: one that no call before showed, or one again.
+#[derive(Clone, Copy)]
+pub enum Shown {
+    New(Standing),
+    Again(Standing),
+}
+
 // A call of the job: what it answered, and the sheet that was shown then.
 #[derive(Clone, Copy)]
 pub struct Step {
     pub pass: Pass,
     pub answer: Answer,
-    pub name: Standing,
-    // No call before showed a sheet of this name.
-    pub is_new: bool,
+    pub shown: Shown,
 }
 
 #[derive(Drop)]
@@ -59,16 +64,16 @@ impl Report {
             if let Answer::Picks(_) = answer {
                 name = name.then::<Gray>(pass.sort);
             }
-            let is_new = shown.named(name).is_none();
-            if is_new {
+            let mut sheet = Shown::Again(name);
+            if shown.named(name).is_none() {
                 let made = Outcome::of(heap, job, front.as_slice())?;
                 shown.add(name, made.into_grays())?;
+                sheet = Shown::New(name);
             }
             steps.push(Step {
                 pass: *pass,
                 answer: *answer,
-                name,
-                is_new,
+                shown: sheet,
             })?;
         }
         Ok(Report {
@@ -83,13 +88,10 @@ impl Report {
 
     // How many calls were not refused.
     pub fn accepted(&self) -> usize {
-        let mut count: usize = 0;
-        for step in self.steps.iter() {
-            if let Answer::Picks(_) = step.answer {
-                count = count.saturating_add(1);
-            }
-        }
-        count
+        self.steps
+            .iter()
+            .filter(|step| matches!(&step.answer, Answer::Picks(_)))
+            .count()
     }
 }
 

@@ -5,38 +5,67 @@ ghost use Rattle.std.specs.Prelude.{◌≤◌, ◌<◌, IfSome, length};
 
 use sheets::holder::Size;
 use std::alloc::{AllocError, AllocFailed, Global};
+use std::fmt;
 use std::str::FromStr;
 
-// Why the rows of a sheet cannot be taken in.
+// The longest side of a sheet that is filtered.
+const LONGEST: usize = 2048;
+
+// Why a sheet cannot be taken in.
 #[derive(Clone, Copy, PartialEq, Eq, Debug)]
-pub enum RowFault {
+pub enum SheetFault {
     // A word is no cell, in this line.
     NoCell(usize),
     // This row has not as many cells as the first.
     UnlikeRow(usize),
+    // The width or height, told in this order, is 0 or above 2,048, as the filters refuse it.
+    WrongSize(usize, usize),
     // There is no memory for it.
     Memory,
 }
 
-impl From<AllocError> for RowFault {
-    ghost use Rattle.std.specs.Prelude.{◌≡◌};
-    ghost use Rattle.texts.specs.declared.RowFault.TheVariants.{Memory};
-
-    ghost from_gives = { λ _ r. r ≡ Memory };
-
-    fn from(_e: AllocError) -> RowFault {
-        RowFault::Memory
+impl SheetFault {
+    // Tells the fault of a sheet with cells of that sort.
+    pub fn tell<W: fmt::Write>(self, cells: &str, f: &mut fmt::Formatter<W>) -> fmt::Result {
+        match self {
+            SheetFault::NoCell(line) => write!(
+                f,
+                "line {}: a row of the sheet has {cells}",
+                line.saturating_add(1)
+            ),
+            SheetFault::UnlikeRow(line) => write!(
+                f,
+                "line {}: this row has not as many cells as the first",
+                line.saturating_add(1)
+            ),
+            SheetFault::WrongSize(width, height) => write!(
+                f,
+                "refused 9: the sheet is {width} by {height}; each goes from 1 to 2048"
+            ),
+            SheetFault::Memory => write!(f, "there is not enough memory"),
+        }
     }
 }
 
-impl<T: Drop> From<AllocFailed<T>> for RowFault {
+impl From<AllocError> for SheetFault {
     ghost use Rattle.std.specs.Prelude.{◌≡◌};
-    ghost use Rattle.texts.specs.declared.RowFault.TheVariants.{Memory};
+    ghost use Rattle.texts.specs.declared.SheetFault.TheVariants.{Memory};
 
     ghost from_gives = { λ _ r. r ≡ Memory };
 
-    fn from(_e: AllocFailed<T>) -> RowFault {
-        RowFault::Memory
+    fn from(_e: AllocError) -> SheetFault {
+        SheetFault::Memory
+    }
+}
+
+impl<T: Drop> From<AllocFailed<T>> for SheetFault {
+    ghost use Rattle.std.specs.Prelude.{◌≡◌};
+    ghost use Rattle.texts.specs.declared.SheetFault.TheVariants.{Memory};
+
+    ghost from_gives = { λ _ r. r ≡ Memory };
+
+    fn from(_e: AllocFailed<T>) -> SheetFault {
+        SheetFault::Memory
     }
 }
 
@@ -44,21 +73,30 @@ impl<T: Drop> From<AllocFailed<T>> for RowFault {
 pub fn heading(lines: &[String], from: usize, word: &str) -> Option<usize>
     ensures { IfSome result (λ i. (from ≤ i) × (i < length lines.now)) }
 {
-    for i in from..lines.len() {
-        let mut words = lines[i].as_str().split_whitespace();
-        if words.next() == Some(word) && words.next().is_none() {
-            return Some(i);
-        }
-    }
-    None
+    first(lines, from, |line| {
+        let mut words = line.split_whitespace();
+        words.next() == Some(word) && words.next().is_none()
+    })
 }
 
 // The first line from one on that begins with this word.
 pub fn setting(lines: &[String], from: usize, word: &str) -> Option<usize>
     ensures { IfSome result (λ i. (from ≤ i) × (i < length lines.now)) }
 {
-    for i in from..lines.len() {
-        if lines[i].as_str().split_whitespace().next() == Some(word) {
+    first(
+        lines,
+        from,
+        |line| line.split_whitespace().next() == Some(word),
+    )
+}
+
+// The first line from one on that is of a sort.
+fn first<F: Fn(&str) -> bool>(lines: &[String], from: usize, is_such: F) -> Option<usize>
+    requires { F.IsAlwaysCallable is_such }
+    ensures { IfSome result (λ i. (from ≤ i) × (i < length lines.now)) }
+{
+    for (i, line) in lines.iter().enumerate().skip(from) {
+        if is_such(line.as_str()) {
             return Some(i);
         }
     }
@@ -77,14 +115,31 @@ where
     }
 }
 
-// Takes in the rows of a sheet, the lines `from` to `end`, as far as there are any, and answers its size. A blank line is no
-// row.
-pub fn read_rows<T: FromStr + Drop>(
+// Takes in a sheet, the lines `from` to `end`, as far as there are any: its size, and its numbers row by row.
+pub fn read_sheet<T: FromStr + Drop>(
+    alloc: Global,
+    lines: &[String],
+    from: usize,
+    end: usize,
+) -> Result<(Size, Vec<T>), SheetFault>
+where
+    T::Err: Drop,
+{
+    let mut cells = Vec::new(alloc);
+    let size = read_rows(lines, from, end, &mut cells)?;
+    if size.height == 0 || size.width > LONGEST || size.height > LONGEST {
+        return Err(SheetFault::WrongSize(size.width, size.height));
+    }
+    Ok((size, cells))
+}
+
+// Takes in the rows of a sheet and answers its size. A blank line is no row.
+fn read_rows<T: FromStr + Drop>(
     lines: &[String],
     from: usize,
     end: usize,
     cells: &mut Vec<T>,
-) -> Result<Size, RowFault>
+) -> Result<Size, SheetFault>
 where
     T::Err: Drop,
 {
@@ -92,11 +147,11 @@ where
         width: 0,
         height: 0,
     };
-    for i in from..end.min(lines.len()) {
-        let width = read_row(lines[i].as_str(), i, cells)?;
+    for (i, line) in lines.iter().enumerate().take(end).skip(from) {
+        let width = read_row(line.as_str(), i, cells)?;
         if width > 0 {
             if size.height > 0 && width != size.width {
-                return Err(RowFault::UnlikeRow(i));
+                return Err(SheetFault::UnlikeRow(i));
             }
             size.width = width;
             size.height = size.height.saturating_add(1);
@@ -110,19 +165,16 @@ fn read_row<T: FromStr + Drop>(
     text: &str,
     line: usize,
     cells: &mut Vec<T>,
-) -> Result<usize, RowFault>
+) -> Result<usize, SheetFault>
 where
     T::Err: Drop,
 {
-    let mut width: usize = 0;
+    let before = cells.len();
     for word in text.split_whitespace() {
-        let Ok(cell) = word.parse::<T>() else {
-            return Err(RowFault::NoCell(line));
-        };
+        let cell = word.parse::<T>().ok().ok_or(SheetFault::NoCell(line))?;
         cells.push(cell)?;
-        width = width.saturating_add(1);
     }
-    Ok(width)
+    Ok(cells.len().saturating_sub(before))
 }
 
 // The lines `from` to `end`, as far as there are any, with a blank one for each line before them, so that what is drawn in
@@ -134,11 +186,11 @@ pub fn drawn_lines(
     end: usize,
 ) -> Result<Vec<String>, AllocError> {
     let mut drawn = Vec::new(alloc);
-    for i in 0..end.min(lines.len()) {
+    for (i, line) in lines.iter().enumerate().take(end) {
         if i < from {
             drawn.push(String::new(alloc))?;
         } else {
-            drawn.push(lines[i].clone()?)?;
+            drawn.push(line.clone()?)?;
         }
     }
     Ok(drawn)
