@@ -26,8 +26,8 @@ pub enum PlanFault {
 impl From<DrawnFault> for PlanFault {
     ghost from_gives = { λ f r. r ≡ Drawn f };
 
-    fn from(fault: DrawnFault) -> PlanFault {
-        PlanFault::Drawn(fault)
+    fn from(drawn: DrawnFault) -> PlanFault {
+        PlanFault::Drawn(drawn)
     }
 }
 
