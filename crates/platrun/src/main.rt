@@ -30,8 +30,8 @@ fn run(rt: &HostRuntime) -> Result<(), RunFault> {
 // The bytes of standard input.
 fn input(rt: &HostRuntime) -> Result<Vec<u8>, RunFault> {
     let mut bytes = Vec::new(rt.alloc());
-    match rt.reader().read_to_end(&mut bytes) {
-        Ok(_) => Ok(bytes),
-        Err(fault) => Err(RunFault::unread(fault)),
-    }
+    rt.reader()
+        .read_to_end(&mut bytes)
+        .map_err(RunFault::unread)?;
+    Ok(bytes)
 }

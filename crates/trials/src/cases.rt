@@ -8,10 +8,9 @@ const MOST: usize = 1_048_576;
 
 // Whether a line has a strip: it is neither blank nor a remark.
 pub fn is_case(line: &str) -> bool {
-    match line.split_whitespace().next() {
-        Some(word) => !word.starts_with("#"),
-        None => false,
-    }
+    line.split_whitespace()
+        .next()
+        .is_some_and(|word| !word.starts_with("#"))
 }
 
 // The bytes of the strip that a line writes.

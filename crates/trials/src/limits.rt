@@ -47,10 +47,7 @@ fn tell_tables(rt: &HostRuntime) -> anyhow::Result<()> {
 }
 
 fn made(mask: Result<Mask, MaskFault>) -> anyhow::Result<Mask> {
-    match mask {
-        Ok(mask) => Ok(mask),
-        Err(_) => Err(anyhow!("the points are no mask")),
-    }
+    mask.map_err(|_| anyhow!("the points are no mask"))
 }
 
 fn tell_answer(rt: &HostRuntime, answer: Result<u64, Refusal>) -> io::Result<()> {
@@ -131,9 +128,7 @@ fn tell_strip(rt: &HostRuntime, length: usize) -> anyhow::Result<()> {
         push_word(&mut bytes, 0x5000_01ef)?;
     }
     push_word(&mut bytes, 0x7000_0000)?;
-    for _ in bytes.len()..length {
-        bytes.push(0)?;
-    }
+    bytes.resize(length, 0)?;
     print!(rt; "strip of {} bytes: ", bytes.len())?;
     match read(bytes.as_slice()) {
         Ok(job) => println!(rt; "read, steps {}", job.steps())?,
@@ -144,8 +139,6 @@ fn tell_strip(rt: &HostRuntime, length: usize) -> anyhow::Result<()> {
 
 // Four bytes, the highest first.
 fn push_word(bytes: &mut Vec<u8>, word: u32) -> anyhow::Result<()> {
-    for byte in word.to_be_bytes() {
-        bytes.push(byte)?;
-    }
+    bytes.extend_from_slice(&word.to_be_bytes())?;
     Ok(())
 }
