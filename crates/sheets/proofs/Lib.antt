@@ -1,6 +1,5 @@
 pub mod Equal
 mod Laid
-mod RowPlaces
-mod TilePlaces
+mod WholeRows
 mod Parts
 mod Turns

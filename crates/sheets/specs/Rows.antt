@@ -6,7 +6,8 @@
 --     rows_sheet r       what rows show
 use Rattle.std.specs.Prelude.{ℕ, zero, suc, ◌+◌, ◌*◌, ◌/◌, List, length}
 use Rattle.std.specs.List.{slice_get}
-use Rattle.sheets.specs.declared.rows.Rows.{Rows}
+use Rattle.sheets.specs.declared.lent.Lent.{Lent}
+use Rattle.sheets.specs.declared.rows.ByRow.{ByRow}
 use Rattle.sheets.specs.Sheet.{Sheet, sheet_of, held}
 
 -- the rows before, and then the columns before
@@ -27,5 +28,5 @@ abbrev pub whole_rows : {C : Type 0} → ℕ → List C → Sheet C
 whole_rows w cells = sheet_of w (row_count w (length cells)) (λ x y. slice_get cells (row_place w x y))
 
 -- the rows of their width and height over the lent cells
-abbrev pub rows_sheet : {C : Type 0} → Rows C → Sheet C
-rows_sheet r = in_rows r.width r.height r.cells.now
+abbrev pub rows_sheet : {C : Type 0} {g : _} → Lent C ByRow g → Sheet C
+rows_sheet r = in_rows r.size.width r.size.height r.cells.now

@@ -5,7 +5,8 @@
 --     in_tiles w h cells     the sheet of w by h cells
 --     tiles_sheet t          what tiles show
 use Rattle.std.specs.Prelude.{ℕ, ◌+◌, ◌*◌, ◌/◌, ◌%◌, List}
-use Rattle.sheets.specs.declared.tiles.Tiles.{Tiles}
+use Rattle.sheets.specs.declared.lent.Lent.{Lent}
+use Rattle.sheets.specs.declared.tiles.InSquares.{InSquares}
 use Rattle.sheets.specs.Sheet.{Sheet, held}
 
 -- n / 8, rounded up
@@ -25,5 +26,5 @@ abbrev pub in_tiles : {C : Type 0} → ℕ → ℕ → List C → Sheet C
 in_tiles w h cells = held (room w h) w h (tile_place (eights w)) cells
 
 -- the tiles of their width and height over the lent cells
-abbrev pub tiles_sheet : {C : Type 0} → Tiles C → Sheet C
-tiles_sheet t = in_tiles t.width t.height t.cells.now
+abbrev pub tiles_sheet : {C : Type 0} {g : _} → Lent C InSquares g → Sheet C
+tiles_sheet t = in_tiles t.size.width t.size.height t.cells.now

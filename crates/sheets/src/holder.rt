@@ -9,6 +9,14 @@ pub struct Size {
     pub height: usize,
 }
 
+impl Size {
+    // Of a sheet without cells.
+    pub const NONE: Size = Size {
+        width: 0,
+        height: 0,
+    };
+}
+
 // A holder of a sheet. Columns count from 0 in the west, rows from 0 in the north.
 pub trait Holder {
     type Cell;

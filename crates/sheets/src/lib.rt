@@ -4,8 +4,11 @@
 // What holding a sheet means.
 pub mod holder;
 
-// What rows and tiles ask of lent memory.
-mod lent;
+// Where the cells of a sheet lie in lent memory.
+mod layout;
+
+// A sheet over lent cells.
+pub mod lent;
 
 // A sheet over lent cells, row by row.
 pub mod rows;

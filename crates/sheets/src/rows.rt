@@ -1,80 +1,47 @@
 // A sheet over lent cells, row by row.
-ghost use Rattle.std.specs.Prelude.{◌≡◌, ◌<◌, length, IfSome};
-ghost use Rattle.sheets.specs.Sheet.{spot};
+ghost use Rattle.std.specs.Prelude.{◌≡◌, ◌*◌, refl};
 ghost use Rattle.sheets.specs.Rows.{row_place, row_count, whole_rows, rows_sheet};
+ghost use Rattle.sheets.specs.RowPlaces.{rows_within, rows_apart};
 
-use crate::holder::{Holder, Size};
-use crate::lent::{enough, item};
+use crate::holder::Size;
+use crate::layout::{Layout, enough};
+use crate::lent::Lent;
 
-// Rows of one width, the northmost first. Cells after the last whole row are not on the sheet.
+// Rows of one width, the northmost first.
 #[derive(Drop)]
-pub struct Rows<'a, C> {
-    width: usize,
-    height: usize,
-    cells: &'a mut [C],
+pub struct ByRow;
+
+// Cells after the last whole row are not on the sheet.
+pub type Rows<'a, C> = Lent<'a, C, ByRow>;
+
+impl Layout for ByRow {
+    ghost room = { λ w h. h * w };
+
+    ghost place = { row_place };
+
+    ghost empty = { refl };
+
+    ghost within = { rows_within };
+
+    ghost apart = { rows_apart };
+
+    fn fits(size: Size, n: usize) -> bool {
+        enough(size.height, size.width, n)
+    }
+
+    fn place(width: usize, x: usize, y: usize) -> usize {
+        y * width + x
+    }
 }
 
 impl<'a, C> Rows<'a, C> {
     // As many rows of that width as the cells fill; 0 by 0 where the width is 0.
+    #[tactic(auto, using(crate::proofs::WholeRows::rows_made))]
     pub fn new(width: usize, cells: &'a mut [C]) -> Rows<'a, C>
         ensures { rows_sheet result ≡ whole_rows width cells.old }
     {
         let height = row_count(width, cells.len());
-        Rows {
-            width,
-            height,
-            cells,
-        }
-    }
-
-    // The lent cells, with what was put.
-    pub fn into_cells(self) -> &'a mut [C]
-        ensures { result.now ≡ self.entry.cells.now }
-    {
-        let Rows {
-            width: _,
-            height: _,
-            cells,
-        } = self;
-        cells
-    }
-}
-
-impl<'a, C: Copy> Holder for Rows<'a, C> {
-    type Cell = C;
-
-    ghost sheet = { rows_sheet };
-
-    // A struct over lent cells keeps no fact about them, so that there are enough is seen here.
-    fn size(&self) -> Size {
-        if enough(self.height, self.width, self.cells.len()) {
-            Size {
-                width: self.width,
-                height: self.height,
-            }
-        } else {
-            Size {
-                width: 0,
-                height: 0,
-            }
-        }
-    }
-
-    fn cell(&self, x: usize, y: usize) -> Option<C> {
-        match spot_of(self, x, y) {
-            Some(i) => Some(item(self.cells, i)),
-            None => None,
-        }
-    }
-
-    fn put(&mut self, x: usize, y: usize, c: C) -> bool {
-        match spot_of(self, x, y) {
-            Some(i) => {
-                self.cells[i] = c;
-                true
-            }
-            None => false,
-        }
+        Lent::lay(Size { width, height }, cells)
     }
 }
 
@@ -82,25 +49,13 @@ impl<'a, C: Copy> Holder for Rows<'a, C> {
 fn row_count(width: usize, n: usize) -> usize
     ensures { result ≡ row_count width n }
 {
-    if width == 0 { 0 } else { n / width }
-}
-
-// Where the cell of a place stands among the cells, if the place is on the sheet.
-fn spot_of<C: Copy>(rows: &Rows<'_, C>, x: usize, y: usize) -> Option<usize>
-    ensures answer { result ≡ spot (rows_sheet rows.now) (row_place rows.now.width) x y }
-    ensures below { IfSome result (λ i. i < length rows.now.cells.now) }
-{
-    let size = rows.size();
-    if x < size.width && y < size.height {
-        Some(y * rows.width + x)
-    } else {
-        None
-    }
+    n.checked_div(width).unwrap_or(0)
 }
 
 #[cfg(test)]
 mod tests {
     use super::*;
+    use crate::holder::Holder;
 
     fn size_at(width: usize) -> Size {
         let mut cells = [0u8; 9];
@@ -109,13 +64,7 @@ mod tests {
 
     #[test]
     fn nine_cells_make_whole_rows_of_any_width(rt: HostRuntime) {
-        assert_eq!(rt;
-            size_at(0),
-            Size {
-                width: 0,
-                height: 0,
-            }
-        );
+        assert_eq!(rt; size_at(0), Size::NONE);
         assert_eq!(rt;
             size_at(1),
             Size {

@@ -1,17 +1,38 @@
 // A sheet over lent cells, in squares of 8 by 8.
-ghost use Rattle.std.specs.Prelude.{◌≡◌, ◌<◌, length, IfSome, nat_le};
-ghost use Rattle.sheets.specs.Sheet.{spot};
+ghost use Rattle.std.specs.Prelude.{◌≡◌, refl};
 ghost use Rattle.sheets.specs.Tiles.{eights, room, tile_place, in_tiles, tiles_sheet};
+ghost use Rattle.sheets.specs.TilePlaces.{tiles_within, tiles_apart};
 
-use crate::holder::{Holder, Size};
-use crate::lent::{enough, item};
+use crate::holder::Size;
+use crate::layout::{Layout, enough};
+use crate::lent::Lent;
 
-// Whole squares, row by row, and the cells row by row in each. Squares at the east and south edge may be shown in part.
+// Whole squares, row by row, and the cells row by row in each.
 #[derive(Drop)]
-pub struct Tiles<'a, C> {
-    width: usize,
-    height: usize,
-    cells: &'a mut [C],
+pub struct InSquares;
+
+// Squares at the east and south edge may be shown in part.
+pub type Tiles<'a, C> = Lent<'a, C, InSquares>;
+
+impl Layout for InSquares {
+    ghost room = { room };
+
+    ghost place = { λ w. tile_place (eights w) };
+
+    ghost empty = { refl };
+
+    ghost within = { tiles_within };
+
+    ghost apart = { tiles_apart };
+
+    fn fits(size: Size, n: usize) -> bool {
+        enough(eights_over(size.width), eights_over(size.height), n / 64)
+    }
+
+    fn place(width: usize, x: usize, y: usize) -> usize {
+        let square = y / 8 * eights_over(width) + x / 8;
+        square * 64 + (y % 8 * 8 + x % 8)
+    }
 }
 
 impl<'a, C> Tiles<'a, C> {
@@ -19,84 +40,8 @@ impl<'a, C> Tiles<'a, C> {
     pub fn new(width: usize, height: usize, cells: &'a mut [C]) -> Tiles<'a, C>
         ensures { tiles_sheet result ≡ in_tiles width height cells.old }
     {
-        Tiles {
-            width,
-            height,
-            cells,
-        }
+        Lent::lay(Size { width, height }, cells)
     }
-
-    // The lent cells, with what was put.
-    pub fn into_cells(self) -> &'a mut [C]
-        ensures { result.now ≡ self.entry.cells.now }
-    {
-        let Tiles {
-            width: _,
-            height: _,
-            cells,
-        } = self;
-        cells
-    }
-}
-
-impl<'a, C: Copy> Holder for Tiles<'a, C> {
-    type Cell = C;
-
-    ghost sheet = { tiles_sheet };
-
-    // As over rows, that there are enough cells is seen here.
-    fn size(&self) -> Size {
-        if room_for(self.width, self.height, self.cells.len()) {
-            Size {
-                width: self.width,
-                height: self.height,
-            }
-        } else {
-            Size {
-                width: 0,
-                height: 0,
-            }
-        }
-    }
-
-    fn cell(&self, x: usize, y: usize) -> Option<C> {
-        match spot_of(self, x, y) {
-            Some(i) => Some(item(self.cells, i)),
-            None => None,
-        }
-    }
-
-    fn put(&mut self, x: usize, y: usize, c: C) -> bool {
-        match spot_of(self, x, y) {
-            Some(i) => {
-                self.cells[i] = c;
-                true
-            }
-            None => false,
-        }
-    }
-}
-
-// Where the cell of a place stands among the cells, if the place is on the sheet.
-fn spot_of<C: Copy>(tiles: &Tiles<'_, C>, x: usize, y: usize) -> Option<usize>
-    ensures answer { result ≡ spot (tiles_sheet tiles.now) (tile_place (eights tiles.now.width)) x y }
-    ensures below { IfSome result (λ i. i < length tiles.now.cells.now) }
-{
-    let size = tiles.size();
-    let across = eights_over(tiles.width);
-    if x < size.width && y < size.height {
-        let square = y / 8 * across + x / 8;
-        Some(square * 64 + (y % 8 * 8 + x % 8))
-    } else {
-        None
-    }
-}
-
-// Whether n cells are enough for the squares of a sheet of that size.
-fn room_for(width: usize, height: usize, n: usize) -> bool
-    ensures { result ≡ nat_le (room width height) n }
-{
-    enough(eights_over(width), eights_over(height), n / 64)
 }
 
 // How many squares cover n places in a line.
@@ -109,6 +54,7 @@ fn eights_over(n: usize) -> usize
 #[cfg(test)]
 mod tests {
     use super::*;
+    use crate::holder::Holder;
 
     // What 256 cells show when a square sheet of that side is asked for.
     fn side(n: usize) -> usize {
@@ -131,13 +77,7 @@ mod tests {
     fn one_cell_too_few_shows_nothing(rt: HostRuntime) {
         let mut cells = [0u8; 63];
         let mut tiles = Tiles::new(1, 1, &mut cells);
-        assert_eq!(rt;
-            tiles.size(),
-            Size {
-                width: 0,
-                height: 0,
-            }
-        );
+        assert_eq!(rt; tiles.size(), Size::NONE);
         assert!(rt; !tiles.put(0, 0, 1));
     }
 

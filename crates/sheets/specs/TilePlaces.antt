@@ -1,8 +1,10 @@
--- The indices of tiles.
+-- That tiles are a layout.
+--     tiles_within  every place inside has its index within the room
+--     tiles_apart   two places inside never share an index
 use Rattle.std.proofs.Common.{◌≡◌, ℕ, ◌+◌, ◌*◌, ◌/◌, ◌%◌, ◌<◌, sym, ap, ◌∙◌, arith}
 use Rattle.std.proofs.lemmas.Nat.{mul-add-lt, div-mul-add, mod-mul-add}
 use Rattle.sheets.specs.Tiles.{eights, room, tile_place}
-use Rattle.sheets.proofs.Laid.{Apart, Within}
+use Rattle.sheets.specs.Layout.{Apart, Within}
 
 -- the square of a place inside is one of those that cover the line
 square_below : (x w : ℕ) → x < w → x / 8 < eights w

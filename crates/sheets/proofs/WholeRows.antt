@@ -1,20 +1,10 @@
--- The indices of rows.
-use Rattle.std.proofs.Common.{◌≡◌, ℕ, zero, suc, ◌*◌, ◌/◌, ◌%◌, ◌≤◌, List, length, sym, ap, ◌∙◌, arith}
-use Rattle.std.proofs.lemmas.Nat.{mul-add-lt, div-mul-add, mod-mul-add, div-add-mod'}
+-- Whole rows have room.
+use Rattle.std.proofs.Common.{◌≡◌, ℕ, zero, suc, ◌*◌, ◌≤◌, List, length, ap, ◌∙◌, arith}
+use Rattle.std.proofs.lemmas.Nat.{div-add-mod'}
 use Rattle.std.specs.List.{slice_get}
 use Rattle.sheets.specs.Sheet.{sheet_of, if_room}
 use Rattle.sheets.specs.Rows.{row_place, row_count, whole_rows, in_rows}
-use Rattle.sheets.proofs.Laid.{Apart, Within, room_enough}
-
--- column and row are the rest and the quotient of the index
-pub rows_apart : (w h : ℕ) → Apart w h (row_place w)
-rows_apart w h i j x y a b c d e = (
-  sym (mod-mul-add j w i a) ∙ ap (λ (n : ℕ). n % w) e ∙ mod-mul-add y w x c,
-  sym (div-mul-add j w i a) ∙ ap (λ (n : ℕ). n / w) e ∙ div-mul-add y w x c,
-)
-
-pub rows_within : (w h : ℕ) → Within w h (row_place w) (h * w)
-rows_within w h x y a b = omega (arith, mul-add-lt y w x h b a)
+use Rattle.sheets.proofs.Laid.{room_enough}
 
 fit : (w n : ℕ) → row_count w n * w ≤ n
 fit zero n = omega arith
