@@ -11,11 +11,11 @@ use masks::mask::Mask;
 use masks::point::Point;
 use morphology::place::Place;
 use morphology::refusal::Refusal;
-use sheets::holder::Holder;
+use sheets::holder::{Holder, Size};
 use sheets::rows::Rows;
 use sheets::south_up::SouthUp;
 use sheets::tiles::Tiles;
-use sheets::window::Window;
+use sheets::window::{Rectangle, Window};
 use std::fmt::Debug;
 use std::process::Abort;
 use std::test::Fail;
@@ -130,7 +130,18 @@ fn in_each_holder<K: Kind + PartialEq + Debug>(
 
 // The last three columns of the southern of two rows, which lie south-up.
 fn in_the_south<'a, K: Kind>(cells: &'a mut [K]) -> Window<SouthUp<Rows<'a, K>>> {
-    Window::new(SouthUp::new(Rows::new(4, cells)), 1, 0, 9, 1)
+    let size = Size {
+        width: 9,
+        height: 1,
+    };
+    Window::new(
+        SouthUp::new(Rows::new(4, cells)),
+        Rectangle {
+            left: 1,
+            top: 0,
+            size,
+        },
+    )
 }
 
 #[test]

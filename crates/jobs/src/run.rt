@@ -19,10 +19,10 @@ use cells::gray::Gray;
 use cells::height::Height;
 use cells::kind::Kind;
 use cells::words::WordForm;
-use sheets::holder::Holder;
+use sheets::holder::{Holder, Size};
 use sheets::rows::Rows;
 use sheets::south_up::SouthUp;
-use sheets::window::Window;
+use sheets::window::{Rectangle, Window};
 use std::alloc::{AllocError, Global};
 use strips::job::{JobStrip, read};
 use strips::kind::CellKind;
@@ -113,18 +113,17 @@ where
     ensures { IfOk result (λ v. Lists H.Cell.Kind.lattice H.Cell.Kind.means H.Cell.Listed.listed kind acts.now (framed window (H.Holder.sheet pile)) v.items) }
 {
     match window {
-        Some(frame) => perform(
-            heap,
-            kind,
-            Window::new(
-                pile,
-                frame.column as usize,
-                frame.row as usize,
-                frame.width as usize,
-                frame.height as usize,
-            ),
-            acts,
-        ),
+        Some(frame) => {
+            let asked = Rectangle {
+                left: frame.column as usize,
+                top: frame.row as usize,
+                size: Size {
+                    width: frame.width as usize,
+                    height: frame.height as usize,
+                },
+            };
+            perform(heap, kind, Window::new(pile, asked), acts)
+        }
         None => perform(heap, kind, pile, acts),
     }
 }

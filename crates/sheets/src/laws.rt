@@ -1,7 +1,7 @@
 // The laws of layers and holders, each the contract of a call.
-ghost use Rattle.std.specs.Prelude.{◌≡◌, ◌+◌, ◌&&◌, T, if◌then◌else◌};
+ghost use Rattle.std.specs.Prelude.{◌≡◌, ◌&&◌, T, if◌then◌else◌};
 ghost use Rattle.sheets.specs.SouthUp.{turned_sheet};
-ghost use Rattle.sheets.specs.Part.{overlap, part, window_sheet};
+ghost use Rattle.sheets.specs.Part.{common, part, window_sheet};
 ghost use Rattle.sheets.specs.Copied.{same_size};
 ghost use Rattle.sheets.specs.Rows.{rows_sheet};
 ghost use Rattle.sheets.specs.Tiles.{tiles_sheet};
@@ -11,7 +11,7 @@ use crate::holder::Holder;
 use crate::rows::Rows;
 use crate::south_up::SouthUp;
 use crate::tiles::Tiles;
-use crate::window::Window;
+use crate::window::{Rectangle, Window};
 
 // South-up over south-up shows the holder below.
 pub fn south_up_twice<H: Holder>(inner: H) -> SouthUp<SouthUp<H>>
@@ -21,18 +21,12 @@ pub fn south_up_twice<H: Holder>(inner: H) -> SouthUp<SouthUp<H>>
 }
 
 // A window over a window shows the window of the common rectangle.
-pub fn window_over_window<H: Holder>(
-    inner: Window<H>,
-    left: usize,
-    top: usize,
-    width: usize,
-    height: usize,
-) -> Window<Window<H>>
+pub fn window_over_window<H: Holder>(inner: Window<H>, asked: Rectangle) -> Window<Window<H>>
 where
     H::Cell: Drop,
-    ensures { window_sheet (window_sheet H.Holder.sheet) result ≡ part (H.Holder.sheet inner.inner) (inner.left + left) (inner.top + top) (overlap inner.width left width) (overlap inner.height top height) }
+    ensures { window_sheet (window_sheet H.Holder.sheet) result ≡ part (H.Holder.sheet inner.inner) (common inner.asked asked) }
 {
-    Window::new(inner, left, top, width, height)
+    Window::new(inner, asked)
 }
 
 // Rows and tiles filled alike show the same sheet. Where the rows have another size nothing is filled, where the tiles have, the rows alone.
@@ -52,14 +46,37 @@ pub fn fill_alike<C: Copy, G: Holder<Cell = C>>(
 #[cfg(test)]
 mod tests {
     use super::*;
+    use crate::holder::Size;
 
     #[test]
     fn layers_over_rows_show_what_the_laws_say(rt: HostRuntime) {
         let mut cells = [1u8, 2, 3, 4, 5, 6];
         let turned = south_up_twice(Rows::new(3, &mut cells));
         assert_eq!(rt; turned.cell(0, 1), Some(4));
-        let outer = Window::new(turned, 1, 0, 9, 9);
-        let inner = window_over_window(outer, 1, 1, 1, 1);
+        let far = Size {
+            width: 9,
+            height: 9,
+        };
+        let outer = Window::new(
+            turned,
+            Rectangle {
+                left: 1,
+                top: 0,
+                size: far,
+            },
+        );
+        let one = Size {
+            width: 1,
+            height: 1,
+        };
+        let inner = window_over_window(
+            outer,
+            Rectangle {
+                left: 1,
+                top: 1,
+                size: one,
+            },
+        );
         assert_eq!(rt; inner.cell(0, 0), Some(6));
     }
 

@@ -12,24 +12,15 @@ use crate::holder::Holder;
 use crate::rows::Rows;
 use crate::south_up::SouthUp;
 use crate::tiles::Tiles;
-use crate::window::Window;
+use crate::window::{Rectangle, Window};
 
 // Puts a cell by its place in a rectangle whose rows count from the south, and gives the holder back: no other cell changes.
-pub fn put_from_south<H: Holder>(
-    inner: H,
-    left: usize,
-    south: usize,
-    width: usize,
-    height: usize,
-    x: usize,
-    y: usize,
-    c: H::Cell,
-) -> H
+pub fn put_from_south<H: Holder>(inner: H, asked: Rectangle, x: usize, y: usize, c: H::Cell) -> H
 where
     H::Cell: Drop,
-    ensures { H.Holder.sheet result ≡ (if has (part (flipped (H.Holder.sheet inner)) left south width height) x y then put_at (H.Holder.sheet inner) (left + x) (from_south (H.Holder.sheet inner).height (south + y)) c else H.Holder.sheet inner) }
+    ensures { H.Holder.sheet result ≡ (if has (part (flipped (H.Holder.sheet inner)) asked) x y then put_at (H.Holder.sheet inner) (asked.left + x) (from_south (H.Holder.sheet inner).height (asked.top + y)) c else H.Holder.sheet inner) }
 {
-    let mut pile = Window::new(SouthUp::new(inner), left, south, width, height);
+    let mut pile = Window::new(SouthUp::new(inner), asked);
     let _ = pile.put(x, y, c);
     pile.into_inner().into_inner()
 }
@@ -48,11 +39,26 @@ pub fn rows_into_tiles<'a, 'b, C: Copy + Drop>(
 #[cfg(test)]
 mod tests {
     use super::*;
+    use crate::holder::Size;
 
     #[test]
     fn a_put_through_two_layers_reaches_one_cell_of_rows(rt: HostRuntime) {
         let mut cells = [0u8; 6];
-        let rows = put_from_south(Rows::new(2, &mut cells), 1, 0, 5, 2, 0, 1, 7);
+        let size = Size {
+            width: 5,
+            height: 2,
+        };
+        let rows = put_from_south(
+            Rows::new(2, &mut cells),
+            Rectangle {
+                left: 1,
+                top: 0,
+                size,
+            },
+            0,
+            1,
+            7,
+        );
         let shown: &[u8] = rows.into_cells();
         let wanted: &[u8] = &[0, 0, 0, 7, 0, 0];
         assert_eq!(rt; shown, wanted);
@@ -62,8 +68,26 @@ mod tests {
     fn a_copy_goes_from_pile_to_pile(rt: HostRuntime) {
         let mut from = [1u8, 2, 3, 4];
         let mut to = [0u8; 64];
-        let rows = Window::new(SouthUp::new(Rows::new(2, &mut from)), 0, 1, 2, 1);
-        let mut tiles = Window::new(SouthUp::new(Tiles::new(2, 3, &mut to)), 0, 0, 2, 1);
+        let size = Size {
+            width: 2,
+            height: 1,
+        };
+        let rows = Window::new(
+            SouthUp::new(Rows::new(2, &mut from)),
+            Rectangle {
+                left: 0,
+                top: 1,
+                size,
+            },
+        );
+        let mut tiles = Window::new(
+            SouthUp::new(Tiles::new(2, 3, &mut to)),
+            Rectangle {
+                left: 0,
+                top: 0,
+                size,
+            },
+        );
         assert!(rt; rows_into_tiles(&rows, &mut tiles));
         let tiles = tiles.into_inner().into_inner();
         assert_eq!(rt; tiles.cell(0, 2), Some(1));

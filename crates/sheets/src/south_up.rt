@@ -23,8 +23,7 @@ impl<H: Holder> SouthUp<H> {
     pub fn into_inner(self) -> H
         ensures { result ≡ self.inner }
     {
-        let SouthUp { inner } = self;
-        inner
+        self.inner
     }
 }
 

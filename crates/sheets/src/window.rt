@@ -5,54 +5,47 @@ ghost use Rattle.sheets.specs.Part.{overlap, unless_none, part, window_sheet, pu
 
 use crate::holder::{Holder, Size};
 
+// A rectangle of places: the corner where it begins, and its size.
+#[derive(Clone, Copy, PartialEq, Eq, Debug)]
+pub struct Rectangle {
+    pub left: usize,
+    pub top: usize,
+    pub size: Size,
+}
+
 // The part of an asked rectangle that lies on the holder below.
 #[derive(Drop)]
 pub struct Window<H> {
     inner: H,
-    left: usize,
-    top: usize,
-    width: usize,
-    height: usize,
+    asked: Rectangle,
 }
 
 impl<H: Holder> Window<H> {
-    // What lies on the holder of the rectangle with that corner and that extent; 0 by 0 where nothing does.
-    pub fn new(inner: H, left: usize, top: usize, width: usize, height: usize) -> Window<H>
-        ensures shows { window_sheet H.Holder.sheet result ≡ part (H.Holder.sheet inner) left top width height }
-        ensures made { result ≡ record { inner = inner; left = left; top = top; width = width; height = height } }
+    // What lies on the holder of that rectangle; 0 by 0 where nothing does.
+    pub fn new(inner: H, asked: Rectangle) -> Window<H>
+        ensures shows { window_sheet H.Holder.sheet result ≡ part (H.Holder.sheet inner) asked }
+        ensures made { result ≡ record { inner = inner; asked = asked } }
     {
-        Window {
-            inner,
-            left,
-            top,
-            width,
-            height,
-        }
+        Window { inner, asked }
     }
 
     // The holder below, with what was put.
     pub fn into_inner(self) -> H
         ensures { result ≡ self.inner }
     {
-        let Window {
-            inner,
-            left: _,
-            top: _,
-            width: _,
-            height: _,
-        } = self;
-        inner
+        self.inner
     }
 
     // The place below that a place of the window shows, if it shows one.
     fn place_below(&self, x: usize, y: usize) -> Option<(usize, usize)>
-        ensures { result ≡ (if has (window_sheet H.Holder.sheet self.now) x y then Some (self.now.left + x, self.now.top + y) else None) }
+        ensures { result ≡ (if has (window_sheet H.Holder.sheet self.now) x y then Some (self.now.asked.left + x, self.now.asked.top + y) else None) }
     {
         let size = self.inner.size();
-        if x < overlap_of(size.width, self.left, self.width)
-            && y < overlap_of(size.height, self.top, self.height)
+        let asked = self.asked;
+        if x < overlap_of(size.width, asked.left, asked.size.width)
+            && y < overlap_of(size.height, asked.top, asked.size.height)
         {
-            Some((self.left + x, self.top + y))
+            Some((asked.left + x, asked.top + y))
         } else {
             None
         }
@@ -68,20 +61,12 @@ where
     ghost sheet = { window_sheet H.Holder.sheet };
 
     fn size(&self) -> Size {
-        clipped(
-            self.inner.size(),
-            self.left,
-            self.top,
-            self.width,
-            self.height,
-        )
+        clipped(self.inner.size(), self.asked)
     }
 
     fn cell(&self, x: usize, y: usize) -> Option<H::Cell> {
-        match self.place_below(x, y) {
-            Some((column, row)) => self.inner.cell(column, row),
-            None => None,
-        }
+        let (column, row) = self.place_below(x, y)?;
+        self.inner.cell(column, row)
     }
 
     // Reaches through to the holder below, where every other cell stays.
@@ -89,8 +74,7 @@ where
         ensures answer { result ≡ has (window_sheet H.Holder.sheet self.old) x y }
         ensures after { window_sheet H.Holder.sheet self.new ≡ put_at (window_sheet H.Holder.sheet self.old) x y c }
         ensures below { H.Holder.sheet self.new.inner ≡ put_through H.Holder.sheet self.old x y c }
-        ensures corner { (self.new.left ≡ self.old.left) × (self.new.top ≡ self.old.top) }
-        ensures extent { (self.new.width ≡ self.old.width) × (self.new.height ≡ self.old.height) }
+        ensures asked { self.new.asked ≡ self.old.asked }
     {
         match self.place_below(x, y) {
             Some((column, row)) => self.inner.put(column, row, c),
@@ -100,17 +84,14 @@ where
 }
 
 // The size of what lies on a sheet of that size of a rectangle.
-fn clipped(size: Size, left: usize, top: usize, width: usize, height: usize) -> Size
-    ensures width { result.width ≡ unless_none (overlap size.height top height) (overlap size.width left width) }
-    ensures height { result.height ≡ unless_none (overlap size.width left width) (overlap size.height top height) }
+fn clipped(sheet: Size, asked: Rectangle) -> Size
+    ensures width { result.width ≡ unless_none (overlap sheet.height asked.top asked.size.height) (overlap sheet.width asked.left asked.size.width) }
+    ensures height { result.height ≡ unless_none (overlap sheet.width asked.left asked.size.width) (overlap sheet.height asked.top asked.size.height) }
 {
-    let across = overlap_of(size.width, left, width);
-    let down = overlap_of(size.height, top, height);
+    let across = overlap_of(sheet.width, asked.left, asked.size.width);
+    let down = overlap_of(sheet.height, asked.top, asked.size.height);
     if across == 0 || down == 0 {
-        Size {
-            width: 0,
-            height: 0,
-        }
+        Size::NONE
     } else {
         Size {
             width: across,
@@ -123,11 +104,7 @@ fn clipped(size: Size, left: usize, top: usize, width: usize, height: usize) -> 
 fn overlap_of(size: usize, from: usize, extent: usize) -> usize
     ensures { result ≡ overlap size from extent }
 {
-    if from < size {
-        extent.min(size - from)
-    } else {
-        0
-    }
+    extent.min(size.saturating_sub(from))
 }
 
 #[cfg(test)]
@@ -138,7 +115,8 @@ mod tests {
     // What a window shows of a sheet of 3 by 3.
     fn size_of(left: usize, top: usize, width: usize, height: usize) -> Size {
         let mut cells = [0u8; 9];
-        Window::new(Rows::new(3, &mut cells), left, top, width, height).size()
+        let size = Size { width, height };
+        Window::new(Rows::new(3, &mut cells), Rectangle { left, top, size }).size()
     }
 
     #[test]
@@ -151,28 +129,11 @@ mod tests {
             },
             "half off"
         );
-        assert_eq!(rt;
-            size_of(3, 0, 2, 2),
-            Size {
-                width: 0,
-                height: 0,
-            },
-            "wholly off"
-        );
-        assert_eq!(rt;
-            size_of(0, 0, 2, 0),
-            Size {
-                width: 0,
-                height: 0,
-            },
-            "without extent"
-        );
+        assert_eq!(rt; size_of(3, 0, 2, 2), Size::NONE, "wholly off");
+        assert_eq!(rt; size_of(0, 0, 2, 0), Size::NONE, "without extent");
         assert_eq!(rt;
             size_of(usize::MAX, 0, usize::MAX, 1),
-            Size {
-                width: 0,
-                height: 0,
-            },
+            Size::NONE,
             "far off"
         );
     }

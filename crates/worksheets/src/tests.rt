@@ -11,11 +11,11 @@ use masks::mask::Mask;
 use masks::point::Point;
 use morphology::call::{Answer, Call, Filter};
 use morphology::refusal::Refusal;
-use sheets::holder::Holder;
+use sheets::holder::{Holder, Size};
 use sheets::rows::Rows;
 use sheets::south_up::SouthUp;
 use sheets::tiles::Tiles;
-use sheets::window::Window;
+use sheets::window::{Rectangle, Window};
 use std::fmt::Debug;
 use std::process::Abort;
 use std::test::Fail;
@@ -101,7 +101,16 @@ fn in_each_holder<K: Kind + PartialEq + Debug>(
     filters(rt, Rows::new(3, &mut cells[0..3]), table, example)?;
     filters(rt, Tiles::new(3, 1, &mut cells[0..64]), table, example)?;
     let upside_down = SouthUp::new(Rows::new(4, &mut cells[0..8]));
-    filters(rt, Window::new(upside_down, 1, 0, 9, 1), table, example)
+    let size = Size {
+        width: 9,
+        height: 1,
+    };
+    let asked = Rectangle {
+        left: 1,
+        top: 0,
+        size,
+    };
+    filters(rt, Window::new(upside_down, asked), table, example)
 }
 
 #[test]

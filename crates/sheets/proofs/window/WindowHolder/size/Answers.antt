@@ -1,12 +1,6 @@
--- clipping gives the size of a part, and a part of a whole sheet is whole
+-- the part of a whole sheet is whole
 use Rattle.sheets.proofs.Parts.{part_whole}
 use Rattle.sheets.proofs.window.WindowHolder.size.Goals as goal
 
-pub returns : goal.returns
-returns g c =
-    let s = c.args.self.now in
-    record {
-      width = cc;
-      height = cc;
-      whole = part_whole (g.H.Holder.sheet s.inner) s.left s.top s.width s.height c.size.ensures.whole;
-    }
+pub returns-clause-whole : goal.returns-clause-whole
+returns-clause-whole g c = part_whole (g.H.Holder.sheet c.args.self.now.inner) c.args.self.now.asked c.size.ensures.whole
