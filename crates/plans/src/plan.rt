@@ -113,26 +113,17 @@ fn northmost(chords: &[Chord]) -> usize
 {
     let mut north = 15;
     for c in chords {
-        let row = grid_row(*c);
-        north = if row < north { row } else { north };
+        north = north.min(grid_place(c.v));
     }
     north
 }
 
-// The row of a chord, counted from -15.
-fn grid_row(c: Chord) -> usize
-    requires { Near c.v }
-    ensures { pos result ≡ c.v +ℤ pos 15 }
+// The row or the column of an offset, counted from -15.
+fn grid_place(offset: i32) -> usize
+    requires { Near offset }
+    ensures { pos result ≡ offset +ℤ pos 15 }
 {
-    (c.v + 15) as usize
-}
-
-// The first column of a chord, counted from -15.
-fn grid_column(c: Chord) -> usize
-    requires { Near c.start }
-    ensures { pos result ≡ c.start +ℤ pos 15 }
-{
-    (c.start + 15) as usize
+    (offset + 15) as usize
 }
 
 // The lengths, in an array of their own.
@@ -169,8 +160,8 @@ fn placed_chord(c: Chord, lengths: &[usize], north: usize) -> PlannedChord
     ensures { result ≡ planned north lengths.now c }
 {
     PlannedChord {
-        row: grid_row(c) - north,
-        column: grid_column(c),
+        row: grid_place(c.v) - north,
+        column: grid_place(c.start),
         index: index_of(lengths, c.length),
     }
 }
@@ -179,10 +170,5 @@ fn placed_chord(c: Chord, lengths: &[usize], north: usize) -> PlannedChord
 fn index_of(lengths: &[usize], length: usize) -> usize
     ensures { result ≡ index_of lengths.now length }
 {
-    for (i, a) in lengths.iter().enumerate() {
-        if *a == length {
-            return i;
-        }
-    }
-    lengths.len()
+    lengths.iter().take_while(|a| **a != length).count()
 }
