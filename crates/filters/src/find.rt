@@ -3,7 +3,7 @@ ghost use Rattle.std.specs.Prelude.{◌≡◌, ℕ, ◌+◌, ◌-◌, ◌*◌, �
 ghost use Rattle.cells.specs.Lattice.{Above};
 ghost use Rattle.masks.specs.Cost.{line_picks};
 ghost use Rattle.masks.specs.declared.point.Point.{Point};
-ghost use Rattle.sheets.specs.Sheet.{Whole, shown};
+ghost use Rattle.sheets.specs.Sheet.{shown};
 ghost use Rattle.morphology.specs.Refusals.{judged_find};
 ghost use Rattle.morphology.specs.Find.{HitList};
 ghost use Rattle.plans.specs.Plan.{Sound, Spells};
@@ -71,7 +71,6 @@ where
     H::Cell: Ranked,
     requires size { (w ≤ 2048) × ((height ≤ 2048) × ((w ≡ (H.Holder.sheet h.now).width) × (height ≡ (H.Holder.sheet h.now).height))) }
     requires some { 1 ≤ w }
-    requires whole { Whole (H.Holder.sheet h.now) }
     requires fore { Sound fore.now × (fore.now.rows * fore.now.sizes * (w + 30) ≤ length fore_table.old) }
     requires back { Sound back.now × (back.now.rows * back.now.sizes * (w + 30) ≤ length back_table.old) }
     ensures picks { result.1 ≡ (height + fore.now.rows - 1) * line_picks w (take fore.now.sizes fore.now.lengths) + height * (w * (fore.now.count - 1)) + ((height + back.now.rows - 1) * line_picks w (take back.now.sizes back.now.lengths) + height * (w * (back.now.count - 1))) }

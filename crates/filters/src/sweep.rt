@@ -3,7 +3,7 @@ ghost use Rattle.std.specs.Prelude.{◌≡◌, ◌+◌, ◌-◌, ◌*◌, ◌≤
 ghost use Rattle.masks.specs.Cost.{line_picks};
 ghost use Rattle.masks.specs.declared.point.Point.{Point};
 ghost use Rattle.morphology.specs.Filters.{eroded};
-ghost use Rattle.sheets.specs.Sheet.{Whole, shown};
+ghost use Rattle.sheets.specs.Sheet.{shown};
 ghost use Rattle.plans.specs.Plan.{Sound, Spells};
 ghost use Rattle.filters.specs.Side.{side};
 
@@ -28,7 +28,6 @@ where
     H::Cell: Kind,
     requires size { (w ≤ 2048) × ((height ≤ 2048) × ((w ≡ (H.Holder.sheet h.old).width) × (height ≡ (H.Holder.sheet h.old).height))) }
     requires some { (1 ≤ w) × (1 ≤ height) }
-    requires whole { Whole (H.Holder.sheet h.old) }
     requires room { plan.now.rows * plan.now.sizes * (w + 30) ≤ length table.old }
     requires plan { Sound plan.now }
     ensures picks { result ≡ (height + plan.now.rows - 1) * line_picks w (take plan.now.sizes plan.now.lengths) + height * (w * (plan.now.count - 1)) }

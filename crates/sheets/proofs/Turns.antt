@@ -14,20 +14,10 @@ flipped_twice s = same_sheet (flipped (flipped s)) s refl refl (λ x y. ap (s.ce
 flipped_put : {C : Type 0} (s : Sheet C) (x y : ℕ) (c : C) → flipped (put_at (flipped s) x y c) ≡ put_at s x (from_south s.height y) c
 flipped_put s x y c =
     same_sheet (flipped (put_at (flipped s) x y c)) (put_at s x (from_south s.height y) c) refl refl
-    (λ i j.
-    let e = ap (s.cell i) (from_south_twice s.height j) in
-    let f = from_south_twice s.height j in
-    let k = from_south_twice s.height y in
-    grind (arith, nat_tests, e, f, k))
-
-flipped_cond : {C : Type 0} (i : Bool) (s t : Sheet C) → flipped (cond i s t) ≡ cond i (flipped s) (flipped t)
-flipped_cond true s t = refl
-flipped_cond false s t = refl
+    (λ i j. let e = ap (s.cell i) (from_south_twice s.height j) in grind (arith, nat_tests, e))
 
 -- a put on the turned sheet, or none, is a put on the sheet, or none
 pub put_turned : {C : Type 0} (i : Bool) (s t : Sheet C) (x y : ℕ) (c : C) →
     flipped t ≡ cond i (put_at (flipped s) x y c) (flipped s) → t ≡ cond i (put_at s x (from_south s.height y) c) s
-put_turned {C} i s t x y c e =
-    sym (flipped_twice t) ∙ ap flipped e ∙ flipped_cond i (put_at (flipped s) x y c) (flipped s)
-    ∙ ap (λ (u : Sheet C). cond i u (flipped (flipped s))) (flipped_put s x y c)
-    ∙ ap (cond i (put_at s x (from_south s.height y) c)) (flipped_twice s)
+put_turned true s t x y c e = sym (flipped_twice t) ∙ ap flipped e ∙ flipped_put s x y c
+put_turned false s t x y c e = sym (flipped_twice t) ∙ ap flipped e ∙ flipped_twice s

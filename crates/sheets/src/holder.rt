@@ -23,11 +23,10 @@ pub trait Holder {
 
     ghost sheet: { Self → Sheet Self.Cell };
 
-    // The size of the sheet, every place of which has a cell.
+    // The size of the sheet.
     fn size(&self) -> Size
         ensures width { result.width ≡ (sheet self.now).width }
-        ensures height { result.height ≡ (sheet self.now).height }
-        ensures whole { Whole (sheet self.now) };
+        ensures height { result.height ≡ (sheet self.now).height };
 
     // The cell in column x and row y, or none off the sheet.
     fn cell(&self, x: usize, y: usize) -> Option<Self::Cell>
@@ -37,4 +36,7 @@ pub trait Holder {
     fn put(&mut self, x: usize, y: usize, c: Self::Cell) -> bool
         ensures answer { result ≡ has (sheet self.old) x y }
         ensures after { sheet self.new ≡ put_at (sheet self.old) x y c };
+
+    // Every place inside the size has a cell, and no other place has one.
+    ghost whole: { (h : Self) → Whole (sheet h) };
 }

@@ -134,8 +134,8 @@ loop-y-preserved g c =
           let I = c.loop-y.invariant.9 ps qs P Q in (
             I.0 ++ L.0,
             hits_more k f ps qs (shown f s) y w fores backs I.0 L.0
-                (row_says k f s p q ps qs P Q c.requires.whole _ _ c.least-least.ensures c.greatest-greatest.ensures t r fores backs a b w y ew below fore_has back_has c.row_at-fores.ensures c.row_at-backs.ensures G H)
-                (λ x h. let i = has_inside f s c.requires.whole x y h.on in omega (arith, i.0, ew)) I.1 R,
+                (row_says k f s p q ps qs P Q (g.met.H.Holder.whole c.args.h.now) _ _ c.least-least.ensures c.greatest-greatest.ensures t r fores backs a b w y ew below fore_has back_has c.row_at-fores.ensures c.row_at-backs.ensures G H)
+                (λ x h. let i = has_inside f s (g.met.H.Holder.whole c.args.h.now) x y h.on in omega (arith, i.0, ew)) I.1 R,
             L.2 ∙ ap (λ (n : ℕ). n + length L.0) I.2 ∙ sym (length-append I.0 L.0),
             L.3 ∙ ap₂ (λ (n : ℕ) (l : List Place). note n L.0 l) I.2 I.3 ∙ sym (note_more I.0 L.0 c.args.places.now),
           ),
@@ -148,7 +148,7 @@ returns-clause-hits g c = λ fores backs P Q.
     let I = c.loop-y.invariant.9 fores backs P Q in (
       I.0,
       hits_all g.H.Cell.Kind.lattice fores backs (shown f s) c.loop-y.y I.0
-          (λ p h. let i = has_inside f s c.requires.whole p.x p.y h.on in omega (arith, i.1, c.requires.size.1.1.1)) I.1,
+          (λ p h. let i = has_inside f s (g.met.H.Holder.whole c.args.h.now) p.x p.y h.on in omega (arith, i.1, c.requires.size.1.1.1)) I.1,
       I.2,
       I.3 ∙ note_listed I.0 c.args.places.now,
     )

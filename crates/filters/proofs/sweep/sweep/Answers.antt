@@ -39,7 +39,7 @@ put_row-requires g c =
     let slot_in_ring : c.next-slot.result < p.rows = subst (λ (n : ℕ). n < p.rows) (sym c.next-slot.ensures) (slot_in p.rows c.loop-y.slot c.loop-y.invariant.0) in
     record {
       room = omega (arith, slot_room c.next-slot.result p.rows p.sizes (c.args.w + 30) slot_in_ring, part_room 0 p.sizes (c.args.w + 30) c.requires.plan.some_length, c.requires.room, c.loop-y.auto.table, c.next_row-picks.auto.table);
-      on = λ x h. row_has k f p s t y x c.requires.whole M (omega (arith, eh)) (omega (arith, ew));
+      on = λ x h. row_has k f p s t y x (g.met.H.Holder.whole c.args.h.now) M (omega (arith, eh)) (omega (arith, ew));
     }
 
 pub loop-y-preserved : goal.loop-y-preserved
@@ -100,5 +100,5 @@ returns g c =
           c.loop-y.invariant.2
           ∙ ap (λ (y : ℕ). (p.rows - 1) * lp + y * (lp + row)) end
           ∙ rows_picks c.args.height p.rows lp row (omega (arith, o.origin));
-      after = λ ps P. mixed_eroded k f p s t ps M c.requires.whole P;
+      after = λ ps P. mixed_eroded k f p s t ps M (g.met.H.Holder.whole c.args.h.now) P;
     }
