@@ -1,5 +1,5 @@
 -- A run of points is one act.
-use Rattle.std.proofs.Common.{◌≡◌, ℕ, List, [], ◌∷◌, ◌++◌, Option, None, sym, ap, ◌∙◌, subst, append_assoc}
+use Rattle.std.proofs.Common.{◌≡◌, ℕ, List, [], ◌∷◌, ◌++◌, Option, None, Ok, sym, ap, ◌∙◌, subst, append_assoc}
 use Rattle.masks.specs.Rows.{marked, Drawn}
 use Rattle.masks.specs.Faults.{refused}
 use Rattle.masks.specs.declared.mask.Mask.{Mask}
@@ -8,14 +8,14 @@ use Rattle.masks.specs.declared.fault.MaskFault.{MaskFault}
 use Rattle.jobs.specs.Acts.{laid, act_by, act_of, closed, AlikeAct, Alike, Closes}
 use Rattle.jobs.specs.Masks.{drawn}
 use Rattle.jobs.specs.declared.act.Act.{Act}
-use Rattle.jobs.specs.declared.act.Act.TheVariants.{Lay}
+use Rattle.jobs.specs.declared.act.Act.TheVariants.{Run}
 use Rattle.jobs.proofs.Drawings.{drawn_all, same_marks, mask_drawn}
 
-pub laid_alike : (w : ℕ) (ps : List Point) (m : Mask) → refused ps ≡ None → Drawn m.rows ps → AlikeAct (Lay m) (act_of w ps)
+pub laid_alike : (w : ℕ) (ps : List Point) (m : Mask) → refused ps ≡ None → Drawn m.rows ps → AlikeAct (Run (Ok m)) (act_of w ps)
 laid_alike w ps m e d =
     let one = mask_drawn ps e in
-    subst (λ (o : Option MaskFault). AlikeAct (Lay m) (act_by w ps o)) (sym e)
-    (subst (λ (o : Option Mask). AlikeAct (Lay m) (laid w o)) (sym one.1)
+    subst (λ (o : Option MaskFault). AlikeAct (Run (Ok m)) (act_by w ps o)) (sym e)
+    (subst (λ (o : Option Mask). AlikeAct (Run (Ok m)) (laid w o)) (sym one.1)
     (same_marks m.rows (drawn ps) ps d (drawn_all ps e) ∙ sym (ap marked one.2)))
 
 -- what is closed leads to the same acts

@@ -1,10 +1,10 @@
 -- The topmost of stored values shows the topmost of raw words.
-use Rattle.std.proofs.Common.{◌≡◌, ℕ, ◌+◌, ◌<◌, Bool, true, false, cond, List, [], ◌∷◌, ◌++◌, map, length, take, Option, Some, None, Ok, Err, Result, IfOk, sym, refl, ap, ◌∙◌, subst}
+use Rattle.std.proofs.Common.{◌≡◌, ℕ, ◌+◌, Bool, true, false, cond, List, map, length, Option, Some, None, Ok, Err, Result, IfOk, sym, refl, ap, ◌∙◌}
 use mathlib.Core.Path.{fun_ext}
 use Rattle.std.specs.List.{slice_get}
 use Rattle.std.specs.Option.{option_map}
-use Rattle.std.proofs.lemmas.List.{map_more, map-append, length-map}
-use Rattle.std.proofs.lemmas.Option.{slice_get-map, slice_get_within, get_or_from_slice_get, slice_get-get_or}
+use Rattle.std.proofs.lemmas.List.{length-map}
+use Rattle.std.proofs.lemmas.Option.{slice_get-map}
 use Rattle.sheets.specs.Sheet.{Sheet, shown, inside}
 use Rattle.sheets.specs.Rows.{row_place, row_count, whole_rows}
 use Rattle.strips.specs.declared.kind.CellKind.{CellKind}
@@ -16,16 +16,6 @@ use Rattle.jobs.specs.Piles.{turned, framed, topmost}
 use Rattle.jobs.specs.Listings.{cells_by, performed, Lists, ListsJob}
 use Rattle.jobs.specs.declared.act.Act.{Act}
 use Rattle.jobs.specs.declared.line.Line.{Line}
-
--- one cell more
-pub cells_more : {K C : Type 0} (f : K → C) (g : ℕ → C) (raws : List ℕ) (i w : ℕ) (xs ys : List K) (a : K) → map f xs ≡ map g (take i raws) → ys ≡ xs ++ a ∷ [] → f a ≡ g w → slice_get raws i ≡ Some w → map f ys ≡ map g (take (i + 1) raws)
-cells_more {C = C} f g raws i w xs ys a e p h s =
-    ap (map f) p ∙ map-append f xs (a ∷ []) ∙ ap (λ (cs : List C). cs ++ f a ∷ []) e
-    ∙ ap (λ (c : C). map g (take i raws) ++ c ∷ []) (h ∙ ap g (sym (get_or_from_slice_get raws i w 0 s)))
-    ∙ sym (map_more g raws i 0 (slice_get_within raws i w s))
-
-pub word_there : (raws : List ℕ) (i : ℕ) → i < length raws → slice_get raws i ≡ None → ⊥
-word_there raws i h e = let s = slice_get-get_or raws i 0 h in cc
 
 module _ {A B : Type 0} (f : A → B) where
   cond_shown : (b : Bool) (o : Option A) → option_map f (cond b o None) ≡ cond b (option_map f o) None
@@ -62,19 +52,10 @@ pub topmost_same : {K C : Type 0} (f : K → C) (g : ℕ → C) (k : CellKind) (
 topmost_same f g k w o xs raws e = topmost_shown f k w o xs ∙ ap (topmost k w o) e ∙ sym (topmost_shown g k w o raws)
 
 -- the listing of the pile is that of the job
-pub lists_pile : {K C : Type 0} (k : Lattice C) (f : K → C) (reads : ℕ → Option K) (g : K → ℕ) (xs : List Act) (j : Job) (kind : CellKind) (w : ℕ) (o : Option Frame) (s : Sheet K) (cs : List K) (ls : List Line) →
-    kind ≡ j.kind → w ≡ j.width → o ≡ j.window → map f cs ≡ map (cells_by k f reads) j.raws → s ≡ topmost kind w o cs → Lists k f g kind xs s ls → ListsJob k f reads g xs j ls
-lists_pile {K} {C} k f reads g xs j kind w o s cs ls ek ew eo m e l =
-    let whole : s ≡ topmost j.kind j.width j.window cs =
-    e ∙ ap (λ (z : CellKind). topmost z w o cs) ek ∙ ap (λ (z : ℕ). topmost j.kind z o cs) ew ∙ ap (λ (z : Option Frame). topmost j.kind j.width z cs) eo in
-    let here : Lists k f g j.kind xs s ls = subst (λ (z : CellKind). Lists k f g z xs s ls) ek l in
-    λ named names. here named names ∙ ap (λ (t : Sheet C). performed k named j.kind xs t) (ap (shown f) whole ∙ topmost_same f (cells_by k f reads) j.kind j.width j.window cs j.raws m)
-
-pub not_turned : {C : Type 0} (k : CellKind) (s : Sheet C) → (k ≡ Height → ⊥) → s ≡ turned k s
-not_turned Gray s n = refl
-not_turned Height s n = absurd (n refl)
-not_turned Flags s n = refl
-not_turned Return s n = refl
+pub lists_pile : {K C : Type 0} (k : Lattice C) (f : K → C) (reads : ℕ → Option K) (g : K → ℕ) (xs : List Act) (j : Job) (s : Sheet K) (cs : List K) (ls : List Line) →
+    map f cs ≡ map (cells_by k f reads) j.raws → s ≡ topmost j.kind j.width j.window cs → Lists k f g j.kind xs s ls → ListsJob k f reads g xs j ls
+lists_pile {C = C} k f reads g xs j s cs ls same whole here =
+    λ named names. here named names ∙ ap (λ (t : Sheet C). performed k named j.kind xs t) (ap (shown f) whole ∙ topmost_same f (cells_by k f reads) j.kind j.width j.window cs j.raws same)
 
 pub if_ok : {A E : Type 0} (r : Result A E) (P Q : A → Type 0) → ((v : A) → P v → Q v) → IfOk r P → IfOk r Q
 if_ok (Ok v) P Q f h = f v h

@@ -1,5 +1,5 @@
 -- The listing of a job in each kind of cell.
-use Rattle.std.proofs.Common.{◌≡◌, ℕ, List, [], refl, sym, ap, ◌∙◌, subst₂}
+use Rattle.std.proofs.Common.{◌≡◌, List, refl, ap, ◌∙◌}
 use Rattle.cells.specs.Kinds.{grays, heights, marks, returns, gray_cell, height_cell, marks_of, return_cell}
 use Rattle.cells.specs.Words.{gray_word, height_word, flags_word, return_word}
 use Rattle.cells.specs.declared.gray.Gray as gray
@@ -7,20 +7,16 @@ use Rattle.cells.specs.declared.height.Height as height
 use Rattle.cells.specs.declared.flags.Flags as flags
 use Rattle.cells.specs.declared.echo.ReturnBits as echo
 use Rattle.sheets.specs.Sheet.{shown}
-use Rattle.strips.specs.Jobs.{Job, first_step}
+use Rattle.strips.specs.Jobs.{Job}
 use Rattle.strips.specs.declared.kind.CellKind.{CellKind}
 use Rattle.strips.specs.declared.kind.CellKind.TheVariants.{Gray, Height, Flags, Return}
 use Rattle.jobs.specs.Words.{gray_listed, height_listed, flags_listed, return_listed}
-use Rattle.jobs.specs.Acts.{acts, job_acts, Alike}
+use Rattle.jobs.specs.Acts.{job_acts, Alike}
 use Rattle.jobs.specs.Piles.{pile}
 use Rattle.jobs.specs.Listings.{cells_by, listed, listed_as, ListsJob}
 use Rattle.jobs.specs.declared.act.Act.{Act}
 use Rattle.jobs.specs.declared.line.Line.{Line}
 use Rattle.jobs.proofs.Likes.{performed_alike}
-
--- the acts of the steps, from the word where they start
-pub same_acts : (xs ys : List Act) (j : Job) (w : ℕ) → xs ≡ ys → w ≡ first_step j → Alike ys (acts w [] j.steps) → Alike xs (job_acts j)
-same_acts xs ys j w e p h = subst₂ (λ (zs : List Act) (n : ℕ). Alike zs (acts n [] j.steps)) (sym e) p h
 
 module _ (xs : List Act) (j : Job) (ls : List Line) (h : Alike xs (job_acts j)) where
   pub gray_job : Gray ≡ j.kind → ListsJob grays (λ (g : gray.Gray). gray_cell g.0) gray_word (λ g. gray_listed (gray_cell g.0)) xs j ls → ls ≡ listed j

@@ -16,11 +16,11 @@ use Rattle.morphology.specs.declared.refusal.Refusal.TheVariants.{WrongSize, Sho
 use Rattle.morphology.specs.declared.call.Filter as filters
 use Rattle.morphology.specs.declared.call.Filter.TheVariants.{Erode, Dilate, Open, Close}
 use Rattle.jobs.specs.Acts.{Alike}
-use Rattle.jobs.specs.Listings.{line_of, left, lines, rows, performed, told, call_line}
+use Rattle.jobs.specs.Listings.{line_of, left, lines, rows, performed, told}
 use Rattle.jobs.specs.declared.act.Act.{Act}
-use Rattle.jobs.specs.declared.act.Act.TheVariants.{Lay, Refuse, Filter}
+use Rattle.jobs.specs.declared.act.Act.TheVariants.{Run, Filter}
 use Rattle.jobs.specs.declared.line.Line.{Line}
-use Rattle.jobs.specs.declared.line.Line.TheVariants.{Sheet as SheetLine, Mask as MaskLine}
+use Rattle.jobs.specs.declared.line.Line.TheVariants.{Sheet as SheetLine, Mask as MaskLine, Call}
 use Rattle.strips.specs.declared.kind.CellKind.{CellKind}
 use Rattle.jobs.proofs.Marks.{points_same, chords_same, table_same, filter_same}
 
@@ -95,7 +95,7 @@ module _ {C : Type 0} (k : Lattice C) where
   lines_alike [] [] f a b h e = (refl, refl)
   lines_alike [] (y ∷ ys) f a b h e = absurd h
   lines_alike (x ∷ xs) [] f a b h e = absurd h
-  lines_alike (Lay m ∷ xs) (Lay n ∷ ys) f a b h e =
+  lines_alike (Run (Ok m) ∷ xs) (Run (Ok n) ∷ ys) f a b h e =
       let rest = lines_alike xs ys f (Some m) (Some n) h.1 h.0 in
       let one : ℕ → ℕ → Line = λ p c. MaskLine p c in (
         ap (λ (ps : List Point). one (length ps) (length (chords m.rows 31)) ∷ lines k xs (at f (Some m))) (points_same m.rows n.rows h.0)
@@ -103,12 +103,12 @@ module _ {C : Type 0} (k : Lattice C) where
             ∙ ap (λ (ls : List Line). one (length (points n.rows 31)) (length (chords n.rows 31)) ∷ ls) rest.0,
         rest.1,
       )
-  lines_alike (Lay m ∷ xs) (Refuse g ∷ ys) f a b h e = absurd h.0
-  lines_alike (Lay m ∷ xs) (Filter q ∷ ys) f a b h e = absurd h.0
-  lines_alike (Refuse g ∷ xs) (y ∷ ys) f a b h e =
+  lines_alike (Run (Ok m) ∷ xs) (Run (Err g) ∷ ys) f a b h e = absurd h.0
+  lines_alike (Run (Ok m) ∷ xs) (Filter q ∷ ys) f a b h e = absurd h.0
+  lines_alike (Run (Err g) ∷ xs) (y ∷ ys) f a b h e =
       let rest = lines_alike xs ys f a b h.1 e in
-      subst (λ (z : Act). (lines k (Refuse g ∷ xs) (at f a) ≡ lines k (z ∷ ys) (at f b)) × ((left k (Refuse g ∷ xs) (at f a)).sheet ≡ (left k (z ∷ ys) (at f b)).sheet)) (sym h.0)
-      (ap (λ (ls : List Line). line_of (Refuse g) (at f a) ∷ ls) rest.0, rest.1)
+      subst (λ (z : Act). (lines k (Run (Err g) ∷ xs) (at f a) ≡ lines k (z ∷ ys) (at f b)) × ((left k (Run (Err g) ∷ xs) (at f a)).sheet ≡ (left k (z ∷ ys) (at f b)).sheet)) (sym h.0)
+      (ap (λ (ls : List Line). line_of (Run (Err g)) (at f a) ∷ ls) rest.0, rest.1)
   lines_alike (Filter q ∷ xs) (y ∷ ys) f a b h e =
       let u = judged f.width f.height a 16384 in
       let v = judged f.width f.height b 16384 in
@@ -119,8 +119,8 @@ module _ {C : Type 0} (k : Lattice C) where
       let s : g ≡ g' = sheet_same k q u v f uv in
       let t : answered_by q u f.width f.height ≡ answered_by q v f.width f.height = answer_same q u v f.width f.height uv in
       subst (λ (z : Act). (lines k (Filter q ∷ xs) (at f a) ≡ lines k (z ∷ ys) (at f b)) × ((left k (Filter q ∷ xs) (at f a)).sheet ≡ (left k (z ∷ ys) (at f b)).sheet)) (sym h.0) (
-        ap (λ (r : Result ℕ Refusal). call_line q (told r) ∷ lines k xs (at g a)) t
-            ∙ ap (λ (ls : List Line). call_line q (told (answered_by q v f.width f.height)) ∷ ls) (rest.0 ∙ ap (λ (i : Sheet C). lines k ys (at i b)) s),
+        ap (λ (r : Result ℕ Refusal). Call q (told r) ∷ lines k xs (at g a)) t
+            ∙ ap (λ (ls : List Line). Call q (told (answered_by q v f.width f.height)) ∷ ls) (rest.0 ∙ ap (λ (i : Sheet C). lines k ys (at i b)) s),
         rest.1 ∙ ap (λ (i : Sheet C). (left k ys (at i b)).sheet) s,
       )
 

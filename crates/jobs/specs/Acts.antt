@@ -6,7 +6,7 @@
 --     job_acts j         the acts of a job
 --     Alike xs ys        the same acts, with masks of the same points
 --     Closes w ps xs ys  ys is xs and what comes of the run ps, if it has points
-use Rattle.std.specs.Prelude.{◌≡◌, ℕ, ◌+◌, List, [], ◌∷◌, ◌++◌, length, Some, None, Option}
+use Rattle.std.specs.Prelude.{◌≡◌, ℕ, ◌+◌, List, [], ◌∷◌, ◌++◌, length, Some, None, Ok, Err, Option}
 use Rattle.masks.specs.Rows.{marked}
 use Rattle.masks.specs.Faults.{refused}
 use Rattle.masks.specs.declared.mask.Mask.{Mask}
@@ -18,23 +18,27 @@ use Rattle.strips.specs.declared.parts.Step.{Step}
 use Rattle.strips.specs.declared.parts.Step.TheVariants as steps
 use Rattle.jobs.specs.Masks.{mask_of}
 use Rattle.jobs.specs.declared.act.Act.{Act}
-use Rattle.jobs.specs.declared.act.Act.TheVariants.{Lay, Refuse, Filter}
-use Rattle.jobs.specs.declared.fault.JobFault.{JobFault}
+use Rattle.jobs.specs.declared.act.Act.TheVariants.{Run, Filter}
+use Rattle.jobs.specs.declared.fault.RunFault.{RunFault}
 use Rattle.jobs.specs.declared.fault.JobFault.TheVariants as faults
 
 -- each point is one word, so the point at place i of the run is word w + i
-abbrev pub blamed : ℕ → MaskFault → JobFault
-blamed w NoPoints = faults.Mask NoPoints w
-blamed w (Beyond i) = faults.Mask (Beyond i) (w + i)
+abbrev pub blamed : ℕ → MaskFault → RunFault
+blamed w NoPoints = record { fault = NoPoints; word = w }
+blamed w (Beyond i) = record { fault = Beyond i; word = w + i }
+
+-- the run is refused
+abbrev pub refuse : ℕ → MaskFault → Act
+refuse w f = Run (Err (faults.Mask (blamed w f)))
 
 -- the mask is laid; points that are not refused have one
 abbrev pub laid : ℕ → Option Mask → Act
-laid w (Some m) = Lay m
-laid w None = Refuse (blamed w NoPoints)
+laid w (Some m) = Run (Ok m)
+laid w None = refuse w NoPoints
 
 abbrev pub act_by : ℕ → List Point → Option MaskFault → Act
 act_by w ps None = laid w (mask_of ps)
-act_by w ps (Some f) = Refuse (blamed w f)
+act_by w ps (Some f) = refuse w f
 
 abbrev pub act_of : ℕ → List Point → Act
 act_of w ps = act_by w ps (refused ps)
@@ -54,10 +58,10 @@ job_acts j = acts (first_step j) [] j.steps
 
 -- all that a mask does depends on its points alone
 abbrev pub AlikeAct : Act → Act → Type 0
-AlikeAct (Lay m) (Lay n) = marked m.rows ≡ marked n.rows
-AlikeAct (Lay m) (Refuse f) = ⊥
-AlikeAct (Lay m) (Filter q) = ⊥
-AlikeAct (Refuse f) b = b ≡ Refuse f
+AlikeAct (Run (Ok m)) (Run (Ok n)) = marked m.rows ≡ marked n.rows
+AlikeAct (Run (Ok m)) (Run (Err f)) = ⊥
+AlikeAct (Run (Ok m)) (Filter q) = ⊥
+AlikeAct (Run (Err f)) b = b ≡ Run (Err f)
 AlikeAct (Filter q) b = b ≡ Filter q
 
 abbrev pub Alike : List Act → List Act → Type 0

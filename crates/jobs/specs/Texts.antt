@@ -1,41 +1,31 @@
 -- The text of a listing, byte by byte.
---     kind_name, filter_name, layer_name   the name of a kind, of a filter, of a layer
+--     filter_name q      the name of a filter
 --     eight_digits w     a word in eight hexadecimal digits
 --     cell_text k w      a cell of the kind k by its word
 --     row_text k ws      the cells of a row, with a blank between two
 --     word_text o        the word that a refusal is told with, if there is one
+--     why_text f         that something was refused, and why
 --     refused_text n f   that what n names was refused, and why
 --     line_text l        a line
 --     text ls            lines, each ended by a line feed
-use Rattle.std.specs.Prelude.{ℕ, List, [], ◌∷◌, ◌++◌, ◌-◌, codes, true, replicate, length, Some, None, Option}
+use Rattle.std.specs.Prelude.{ℕ, List, [], ◌∷◌, ◌++◌, ◌-◌, codes, true, replicate, length, Some, None, Ok, Err, Option}
 use Rattle.std.specs.List.{flat_map}
 use Rattle.std.specs.Int.{w32, cast_signed}
 use Rattle.std.specs.Fmt.{digits, decimal, signed_decimal}
 use Rattle.morphology.specs.declared.call.Filter as filters
+use Rattle.strips.specs.Kinds.{kind_name}
 use Rattle.strips.specs.declared.kind.CellKind.{CellKind}
 use Rattle.strips.specs.declared.kind.CellKind.TheVariants as kinds
-use Rattle.jobs.specs.Faults.{number, word, layer}
-use Rattle.jobs.specs.declared.fault.Layer as layers
+use Rattle.jobs.specs.Faults.{number, word, layer, layer_name}
 use Rattle.jobs.specs.declared.fault.JobFault.{JobFault}
 use Rattle.jobs.specs.declared.line.Line.{Line}
-use Rattle.jobs.specs.declared.line.Line.TheVariants.{Refused, Sheet, Mask, Call, CallRefused, Cells}
-
-abbrev pub kind_name : CellKind → List ℕ
-kind_name kinds.Gray = codes "gray"
-kind_name kinds.Height = codes "height"
-kind_name kinds.Flags = codes "flags"
-kind_name kinds.Return = codes "return"
+use Rattle.jobs.specs.declared.line.Line.TheVariants.{Refused, Sheet, Mask, Call, Cells}
 
 abbrev pub filter_name : filters.Filter → List ℕ
 filter_name filters.TheVariants.Erode = codes "erode"
 filter_name filters.TheVariants.Dilate = codes "dilate"
 filter_name filters.TheVariants.Open = codes "open"
 filter_name filters.TheVariants.Close = codes "close"
-
-abbrev pub layer_name : layers.Layer → List ℕ
-layer_name layers.TheVariants.Strip = codes "strip"
-layer_name layers.TheVariants.Mask = codes "mask"
-layer_name layers.TheVariants.Worksheet = codes "worksheet"
 
 -- in capitals, with zeros (48) before them
 abbrev pub eight_digits : ℕ → List ℕ
@@ -60,15 +50,18 @@ abbrev pub word_text : Option ℕ → List ℕ
 word_text None = []
 word_text (Some w) = codes " word " ++ decimal w
 
+abbrev pub why_text : JobFault → List ℕ
+why_text f = codes " refused " ++ decimal (number f) ++ word_text (word f)
+
 abbrev pub refused_text : List ℕ → JobFault → List ℕ
-refused_text name f = name ++ codes " refused " ++ decimal (number f) ++ word_text (word f)
+refused_text name f = name ++ why_text f
 
 abbrev pub line_text : Line → List ℕ
 line_text (Refused f) = refused_text (layer_name (layer f)) f
 line_text (Sheet k w h) = codes "sheet " ++ kind_name k ++ codes " " ++ decimal w ++ codes " " ++ decimal h
 line_text (Mask p c) = codes "mask " ++ decimal p ++ codes " chords " ++ decimal c
-line_text (Call q n) = filter_name q ++ codes " " ++ decimal n
-line_text (CallRefused q f) = refused_text (filter_name q) f
+line_text (Call q (Ok n)) = filter_name q ++ codes " " ++ decimal n
+line_text (Call q (Err f)) = refused_text (filter_name q) f
 line_text (Cells k r) = row_text k r
 
 abbrev pub text : List Line → List ℕ

@@ -1,9 +1,10 @@
 // The steps of a job, with each run of points as one mask.
-ghost use Rattle.std.specs.Prelude.{◌≡◌, ℕ, ◌+◌, ◌^◌, ◌<◌, [], length, IfOk};
-ghost use Rattle.strips.specs.Views.{job_of, steps_start};
-ghost use Rattle.jobs.specs.Acts.{blamed, act_of, acts, AlikeAct, Alike, Closes};
+ghost use Rattle.std.specs.Prelude.{◌≡◌, ℕ, ◌+◌, ◌^◌, ◌<◌, length, IfOk};
+ghost use Rattle.strips.specs.Views.{job_of};
+ghost use Rattle.jobs.specs.Acts.{blamed, act_of, job_acts, AlikeAct, Alike, Closes};
+ghost use Rattle.jobs.specs.declared.act.Act.TheVariants.{Run};
 
-use crate::fault::JobFault;
+use crate::fault::{JobFault, RunFault};
 use masks::fault::MaskFault;
 use masks::mask::Mask;
 use masks::point::Point;
@@ -15,17 +16,15 @@ use strips::parts::{Step, point_of};
 // What is done at a call, or where a run of points ends.
 #[derive(Clone, Copy)]
 pub enum Act {
-    // The mask of the run is laid.
-    Lay(Mask),
-    // No mask can be made of the run; the one that lies stays.
-    Refuse(JobFault),
+    // The mask of the run is laid; where none can be made, the one that lies stays.
+    Run(Result<Mask, JobFault>),
     // The filter is called.
     Filter(Filter),
 }
 
 // The acts of the job's steps.
 pub(crate) fn acts_of(heap: Global, job: &JobStrip<'_>) -> Result<Vec<Act>, AllocError>
-    ensures { IfOk result (λ v. Alike v.items (acts (steps_start job.now) [] (job_of job.now).steps)) }
+    ensures { IfOk result (λ v. Alike v.items (job_acts (job_of job.now))) }
 {
     let mut acts = Vec::new(heap);
     let Some(start) = job.step_place(0) else {
@@ -33,9 +32,10 @@ pub(crate) fn acts_of(heap: Global, job: &JobStrip<'_>) -> Result<Vec<Act>, Allo
     };
     let mut run = Vec::new(heap);
     let mut first = start;
+    // By index, since the word of a step is counted as well.
     for i in 0..job.steps() {
         match job.step(i) {
-            Some(Step::Point(u, v)) => run.push(point_of(u, v))?,
+            Some(Step::Point { u, v }) => run.push(point_of(u, v))?,
             Some(Step::Call(filter)) => {
                 close(&mut acts, first, run.as_slice())?;
                 acts.push(Act::Filter(filter))?;
@@ -55,29 +55,28 @@ fn close(acts: &mut Vec<Act>, first: usize, run: &[Point]) -> Result<(), AllocEr
     ensures { IfOk result (λ _. Closes first run.now acts.old.items acts.new.items) }
 {
     if !run.is_empty() {
-        acts.push(act_of(first, run))?;
+        acts.push(Act::Run(mask_of(first, run)))?;
     }
     Ok(())
 }
 
-// What comes of a run of points, the first of which is that word.
-fn act_of(first: usize, run: &[Point]) -> Act
+// The mask of a run of points, the first of which is that word.
+fn mask_of(first: usize, run: &[Point]) -> Result<Mask, JobFault>
     requires { first + length run.now < 2 ^ 63 }
-    ensures { AlikeAct result (act_of first run.now) }
+    ensures { AlikeAct (Run result) (act_of first run.now) }
 {
-    match Mask::from_points(run) {
-        Ok(mask) => Act::Lay(mask),
-        Err(fault) => Act::Refuse(blamed(first, fault)),
-    }
+    let mask = Mask::from_points(run).map_err(|fault| blamed(first, fault))?;
+    Ok(mask)
 }
 
 // The refusal of a mask, with the word of the point that is to blame.
-fn blamed(first: usize, fault: MaskFault) -> JobFault
+fn blamed(first: usize, fault: MaskFault) -> RunFault
     requires { (i : ℕ) → fault ≡ MaskFault.Beyond i → first + i < 2 ^ 63 }
     ensures { result ≡ blamed first fault }
 {
-    match fault {
-        MaskFault::NoPoints => JobFault::Mask(fault, first),
-        MaskFault::Beyond(i) => JobFault::Mask(fault, first + i),
-    }
+    let word = match fault {
+        MaskFault::NoPoints => first,
+        MaskFault::Beyond(i) => first + i,
+    };
+    RunFault { fault, word }
 }

@@ -1,10 +1,11 @@
 // Why a job, or a step of it, is refused.
-ghost use Rattle.std.specs.Prelude.{◌≡◌};
-ghost use Rattle.jobs.specs.declared.fault.JobFault.TheVariants.{Strip, Worksheet};
-ghost use Rattle.jobs.specs.Faults.{number, word, layer};
+ghost use Rattle.std.specs.Prelude.{◌≡◌, Some};
+ghost use Rattle.jobs.specs.declared.fault.JobFault.TheVariants.{Strip, Mask, Worksheet};
+ghost use Rattle.jobs.specs.Faults.{number, word, layer, layer_name};
 
 use masks::fault::MaskFault;
 use morphology::refusal::Refusal;
+use std::fmt;
 use strips::fault::StripFault;
 
 // The layer that refuses.
@@ -15,13 +16,32 @@ pub enum Layer {
     Worksheet,
 }
 
+impl fmt::Display for Layer {
+    ghost output = { λ l. Some (layer_name l) };
+
+    fn fmt<W: fmt::Write>(&self, f: &mut fmt::Formatter<W>) -> fmt::Result {
+        f.write_str(match self {
+            Layer::Strip => "strip",
+            Layer::Mask => "mask",
+            Layer::Worksheet => "worksheet",
+        })
+    }
+}
+
+// A refusal to make a mask of a run of points, with the word of the point that is to blame.
+#[derive(Clone, Copy, PartialEq, Eq, Debug)]
+pub struct RunFault {
+    pub fault: MaskFault,
+    pub word: usize,
+}
+
 // A refusal, with that of the layer whole.
 #[derive(Clone, Copy, PartialEq, Eq, Debug)]
 pub enum JobFault {
     // The bytes are the strip of no job.
     Strip(StripFault),
-    // No mask can be made of a run of points; told with the word of the point that is to blame.
-    Mask(MaskFault, usize),
+    // No mask can be made of a run of points.
+    Mask(RunFault),
     // A filter does not go ahead.
     Worksheet(Refusal),
 }
@@ -33,7 +53,7 @@ impl JobFault {
     {
         match self {
             JobFault::Strip(fault) => fault.number(),
-            JobFault::Mask(fault, _) => fault.number(),
+            JobFault::Mask(run) => run.fault.number(),
             JobFault::Worksheet(refusal) => refusal.number(),
         }
     }
@@ -44,7 +64,7 @@ impl JobFault {
     {
         match self {
             JobFault::Strip(fault) => Some(fault.word()),
-            JobFault::Mask(_, word) => Some(word),
+            JobFault::Mask(run) => Some(run.word),
             JobFault::Worksheet(_) => None,
         }
     }
@@ -55,7 +75,7 @@ impl JobFault {
     {
         match self {
             JobFault::Strip(_) => Layer::Strip,
-            JobFault::Mask(_, _) => Layer::Mask,
+            JobFault::Mask(_) => Layer::Mask,
             JobFault::Worksheet(_) => Layer::Worksheet,
         }
     }
@@ -66,6 +86,14 @@ impl From<StripFault> for JobFault {
 
     fn from(fault: StripFault) -> JobFault {
         JobFault::Strip(fault)
+    }
+}
+
+impl From<RunFault> for JobFault {
+    ghost from_gives = { λ f r. r ≡ Mask f };
+
+    fn from(fault: RunFault) -> JobFault {
+        JobFault::Mask(fault)
     }
 }
 

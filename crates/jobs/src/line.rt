@@ -45,10 +45,8 @@ pub enum Line {
     Sheet(CellKind, usize, usize),
     // A mask is laid: its points and its chords.
     Mask(usize, usize),
-    // A filter went ahead: its picks.
-    Call(Filter, u64),
-    // A filter did not go ahead.
-    CallRefused(Filter, JobFault),
+    // A filter was called: its picks, or why it did not go ahead.
+    Call(Filter, Result<u64, JobFault>),
     // A row of the topmost sheet.
     Cells(CellKind, Row),
 }

@@ -5,7 +5,7 @@ ghost use Rattle.masks.specs.Rows.{points};
 ghost use Rattle.morphology.specs.Calls.{answered, after};
 ghost use Rattle.morphology.specs.declared.call.Call.TheVariants.{Apply};
 ghost use Rattle.worksheets.specs.Performed.{state};
-ghost use Rattle.jobs.specs.Listings.{told, call_line, line_of, left_by, left, lines, row, rows, Lists};
+ghost use Rattle.jobs.specs.Listings.{told, line_of, left_by, left, lines, row, rows, Lists};
 
 use crate::act::Act;
 use crate::fault::JobFault;
@@ -76,12 +76,12 @@ where
     ensures after { state H.Cell.Kind.means H.Holder.sheet worksheet.new ≡ left_by H.Cell.Kind.lattice act (state H.Cell.Kind.means H.Holder.sheet worksheet.old) }
 {
     match act {
-        Act::Lay(mask) => {
+        Act::Run(Ok(mask)) => {
             worksheet.lay(mask);
             mask_line(&mask)
         }
-        Act::Refuse(fault) => Line::Refused(fault),
-        Act::Filter(filter) => call_line(filter, call(worksheet, filter, table)),
+        Act::Run(Err(fault)) => Line::Refused(fault),
+        Act::Filter(filter) => Line::Call(filter, call(worksheet, filter, table)),
     }
 }
 
@@ -105,18 +105,7 @@ where
     ensures answer { result ≡ told (answered filter (length table.old) (state H.Cell.Kind.means H.Holder.sheet worksheet.old)) }
     ensures after { state H.Cell.Kind.means H.Holder.sheet worksheet.new ≡ after H.Cell.Kind.lattice (Apply filter (length table.old)) (state H.Cell.Kind.means H.Holder.sheet worksheet.old) }
 {
-    let picks = worksheet.apply(filter, table)?;
-    Ok(picks)
-}
-
-// The line of a filter that was called.
-fn call_line(filter: Filter, answer: Result<u64, JobFault>) -> Line
-    ensures { result ≡ call_line filter answer }
-{
-    match answer {
-        Ok(picks) => Line::Call(filter, picks),
-        Err(fault) => Line::CallRefused(filter, fault),
-    }
+    Ok(worksheet.apply(filter, table)?)
 }
 
 // Puts the rows of the sheet behind the lines that are there, the northmost first.

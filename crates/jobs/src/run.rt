@@ -1,9 +1,8 @@
 // The listing of a strip.
-ghost use Rattle.std.specs.Prelude.{◌≡◌, ◌*◌, [], ◌∷◌, map, length, Ok, IfOk, IfErr, string_bytes};
+ghost use Rattle.std.specs.Prelude.{◌≡◌, [], ◌∷◌, map, IfOk, string_bytes};
 ghost use Rattle.strips.specs.Reading.{reading};
-ghost use Rattle.strips.specs.Jobs.{first_step};
-ghost use Rattle.strips.specs.Views.{job_of, steps_start};
-ghost use Rattle.jobs.specs.Piles.{framed};
+ghost use Rattle.strips.specs.Views.{job_of};
+ghost use Rattle.jobs.specs.Piles.{turned, framed};
 ghost use Rattle.jobs.specs.Listings.{cells_by, listed, listing, Lists, ListsJob};
 ghost use Rattle.jobs.specs.Texts.{text};
 
@@ -26,15 +25,14 @@ use sheets::window::{Rectangle, Window};
 use std::alloc::{AllocError, Global};
 use strips::job::{JobStrip, read};
 use strips::kind::CellKind;
-use strips::parts::Frame;
 
 // Runs the job of the strip, and answers its listing; or the one line of a strip that is refused.
 pub fn run(heap: Global, bytes: &[u8]) -> Result<Vec<Line>, AllocError>
     ensures { IfOk result (λ v. v.items ≡ listing (reading bytes.now)) }
 {
-    match read_job(bytes) {
+    match read(bytes) {
         Ok(job) => list(heap, &job),
-        Err(fault) => refusal(heap, fault),
+        Err(fault) => refusal(heap, JobFault::from(fault)),
     }
 }
 
@@ -44,17 +42,6 @@ pub fn run_to_text(heap: Global, bytes: &[u8]) -> Result<String, AllocError>
 {
     let lines = run(heap, bytes)?;
     text(heap, lines.as_slice())
-}
-
-// The job that the strip tells, or why it tells none.
-fn read_job(bytes: &[u8]) -> Result<JobStrip<'_>, JobFault>
-    ensures found { IfOk result (λ s. reading bytes.now ≡ Ok (job_of s)) }
-    ensures placed { IfOk result (λ s. steps_start s ≡ first_step (job_of s)) }
-    ensures count { IfOk result (λ s. length (job_of s).raws ≡ (job_of s).width * (job_of s).height) }
-    ensures refused { IfErr result (λ f. listing (reading bytes.now) ≡ Line.Refused f ∷ []) }
-{
-    let job = read(bytes)?;
-    Ok(job)
 }
 
 // The one line of a strip that is refused.
@@ -68,8 +55,6 @@ fn refusal(heap: Global, fault: JobFault) -> Result<Vec<Line>, AllocError>
 
 // The listing of a job.
 fn list(heap: Global, job: &JobStrip<'_>) -> Result<Vec<Line>, AllocError>
-    requires placed { steps_start job.now ≡ first_step (job_of job.now) }
-    requires count { length (job_of job.now).raws ≡ (job_of job.now).width * (job_of job.now).height }
     ensures { IfOk result (λ v. v.items ≡ listed (job_of job.now)) }
 {
     let acts = acts_of(heap, job)?;
@@ -87,32 +72,47 @@ fn list_as<K: Listed + Drop>(
     job: &JobStrip<'_>,
     acts: &[Act],
 ) -> Result<Vec<Line>, AllocError>
-    requires { length (job_of job.now).raws ≡ (job_of job.now).width * (job_of job.now).height }
     ensures { IfOk result (λ v. ListsJob K.Kind.lattice K.Kind.means K.WordForm.reads K.Listed.listed acts.now (job_of job.now) v.items) }
 {
     let mut cells = cells_of::<K>(heap, job)?;
     let rows = Rows::new(job.width() as usize, cells.as_mut_slice());
-    let kind = job.kind();
-    match kind {
-        CellKind::Height => list_framed(heap, kind, SouthUp::new(rows), job.window(), acts),
-        _ => list_framed(heap, kind, rows, job.window(), acts),
+    list_turned(heap, job, rows, acts)
+}
+
+// The listing of the acts on the topmost over a pile: south-up where the job is of heights, and the window.
+fn list_turned<H>(
+    heap: Global,
+    job: &JobStrip<'_>,
+    pile: H,
+    acts: &[Act],
+) -> Result<Vec<Line>, AllocError>
+where
+    H: Holder + Drop,
+    H::Cell: Listed + Drop,
+    ensures { IfOk result (λ v. Lists H.Cell.Kind.lattice H.Cell.Kind.means H.Cell.Listed.listed (job_of job.now).kind acts.now (framed (job_of job.now).window (turned (job_of job.now).kind (H.Holder.sheet pile))) v.items) }
+{
+    match job.kind() {
+        CellKind::Height => list_framed(heap, job, SouthUp::new(pile), acts),
+        CellKind::Gray | CellKind::Flags | CellKind::Return => {
+            list_framed(heap, job, pile, acts)
+        }
     }
 }
 
 // The listing of the acts on the window of a pile, or on the pile.
 fn list_framed<H>(
     heap: Global,
-    kind: CellKind,
+    job: &JobStrip<'_>,
     pile: H,
-    window: Option<Frame>,
     acts: &[Act],
 ) -> Result<Vec<Line>, AllocError>
 where
     H: Holder + Drop,
     H::Cell: Listed + Drop,
-    ensures { IfOk result (λ v. Lists H.Cell.Kind.lattice H.Cell.Kind.means H.Cell.Listed.listed kind acts.now (framed window (H.Holder.sheet pile)) v.items) }
+    ensures { IfOk result (λ v. Lists H.Cell.Kind.lattice H.Cell.Kind.means H.Cell.Listed.listed (job_of job.now).kind acts.now (framed (job_of job.now).window (H.Holder.sheet pile)) v.items) }
 {
-    match window {
+    let kind = job.kind();
+    match job.window() {
         Some(frame) => {
             let asked = Rectangle {
                 left: frame.column as usize,
@@ -130,16 +130,11 @@ where
 
 // The cells of the raw words, row by row.
 fn cells_of<K: Listed>(heap: Global, job: &JobStrip<'_>) -> Result<Vec<K>, AllocError>
-    requires { length (job_of job.now).raws ≡ (job_of job.now).width * (job_of job.now).height }
     ensures { IfOk result (λ v. map K.Kind.means v.items ≡ map (cells_by K.Kind.lattice K.Kind.means K.WordForm.reads) (job_of job.now).raws) }
 {
-    let width = job.width() as usize;
-    let height = job.height() as usize;
     let mut cells = Vec::new(heap);
-    for i in 0..width * height {
-        if let Some(word) = job.raw(i) {
-            cells.push(cell_of(word))?;
-        }
+    for word in job.raws() {
+        cells.push(cell_of(u32::from_be_bytes(*word)))?;
     }
     Ok(cells)
 }
@@ -148,8 +143,5 @@ fn cells_of<K: Listed>(heap: Global, job: &JobStrip<'_>) -> Result<Vec<K>, Alloc
 fn cell_of<K: Listed>(word: u32) -> K
     ensures { K.Kind.means result ≡ cells_by K.Kind.lattice K.Kind.means K.WordForm.reads word }
 {
-    match K::from_word(word) {
-        Some(cell) => cell,
-        None => K::least(),
-    }
+    K::from_word(word).unwrap_or(K::least())
 }

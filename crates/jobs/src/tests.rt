@@ -1,5 +1,5 @@
 // Strips in words, and their listings as text.
-use crate::fault::{JobFault, Layer};
+use crate::fault::{JobFault, Layer, RunFault};
 use crate::line::Line;
 use crate::run::run;
 use masks::fault::MaskFault;
@@ -185,7 +185,10 @@ fn a_fault_has_number_layer_and_word(rt: HostRuntime) {
     assert_eq!(rt; strip.number(), 6);
     assert_eq!(rt; strip.layer(), Layer::Strip);
     assert_eq!(rt; strip.word(), Some(5));
-    let mask = JobFault::Mask(MaskFault::Beyond(1), 6);
+    let mask = JobFault::Mask(RunFault {
+        fault: MaskFault::Beyond(1),
+        word: 6,
+    });
     assert_eq!(rt; mask.number(), 8);
     assert_eq!(rt; mask.layer(), Layer::Mask);
     assert_eq!(rt; mask.word(), Some(6));

@@ -1,19 +1,9 @@
 // A listing as text.
 ghost use Rattle.std.specs.Prelude.{◌≡◌, IfOk, Some, string_bytes};
 ghost use Rattle.std.specs.Fmt.{WritesOnOk};
-ghost use Rattle.jobs.specs.Texts.{
-  kind_name,
-  filter_name,
-  layer_name,
-  cell_text,
-  rest_text,
-  row_text,
-  refused_text,
-  line_text,
-  text,
-};
+ghost use Rattle.jobs.specs.Texts.{filter_name, cell_text, rest_text, row_text, why_text, line_text, text};
 
-use crate::fault::{JobFault, Layer};
+use crate::fault::JobFault;
 use crate::line::Line;
 use morphology::call::Filter;
 use std::alloc::{AllocError, Global};
@@ -37,58 +27,39 @@ impl fmt::Display for Line {
 
     fn fmt<W: fmt::Write>(&self, f: &mut fmt::Formatter<W>) -> fmt::Result {
         match self {
-            Line::Refused(fault) => show_refused(layer_name(fault.layer()), *fault, f),
-            Line::Sheet(kind, width, height) => {
-                let name = kind_name(*kind);
-                write!(f, "sheet {name} {width} {height}")
+            Line::Refused(fault) => {
+                let layer = fault.layer();
+                write!(f, "{layer}")?;
+                show_why(*fault, f)
             }
+            Line::Sheet(kind, width, height) => write!(f, "sheet {kind} {width} {height}"),
             Line::Mask(points, chords) => write!(f, "mask {points} chords {chords}"),
-            Line::Call(filter, picks) => {
+            Line::Call(filter, Ok(picks)) => {
                 let name = filter_name(*filter);
                 write!(f, "{name} {picks}")
             }
-            Line::CallRefused(filter, fault) => show_refused(filter_name(*filter), *fault, f),
+            Line::Call(filter, Err(fault)) => {
+                let name = filter_name(*filter);
+                write!(f, "{name}")?;
+                show_why(*fault, f)
+            }
             Line::Cells(kind, row) => show_row(*kind, row.words(), f),
         }
     }
 }
 
-// What was refused, the number, and the word that it is told with.
-fn show_refused<W: fmt::Write>(
-    what: &str,
-    fault: JobFault,
-    f: &mut fmt::Formatter<W>,
-) -> fmt::Result
-    ensures { WritesOnOk W.write_str_gives f.old result (refused_text what.now fault) f.new }
+// That it was refused, the number, and the word that it is told with.
+fn show_why<W: fmt::Write>(fault: JobFault, f: &mut fmt::Formatter<W>) -> fmt::Result
+    ensures { WritesOnOk W.write_str_gives f.old result (why_text fault) f.new }
 {
     let number = fault.number();
     match fault.word() {
-        Some(word) => write!(f, "{what} refused {number} word {word}"),
-        None => write!(f, "{what} refused {number}"),
+        Some(word) => write!(f, " refused {number} word {word}"),
+        None => write!(f, " refused {number}"),
     }
 }
 
-fn layer_name(layer: Layer) -> &'static str
-    ensures { result.now ≡ layer_name layer }
-{
-    match layer {
-        Layer::Strip => "strip",
-        Layer::Mask => "mask",
-        Layer::Worksheet => "worksheet",
-    }
-}
-
-fn kind_name(kind: CellKind) -> &'static str
-    ensures { result.now ≡ kind_name kind }
-{
-    match kind {
-        CellKind::Gray => "gray",
-        CellKind::Height => "height",
-        CellKind::Flags => "flags",
-        CellKind::Return => "return",
-    }
-}
-
+// A filter is of another crate, so that Display cannot be written for it here.
 fn filter_name(filter: Filter) -> &'static str
     ensures { result.now ≡ filter_name filter }
 {

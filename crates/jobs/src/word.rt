@@ -20,6 +20,8 @@ pub trait Listed: WordForm {
         ensures again { option_map Self.Kind.means (Self.WordForm.reads result) ≡ Some (Self.Kind.means self) };
 }
 
+// The four bodies are one, but no default: that a value's word is the listed one holds in the range of its type alone, and a
+// law of the trait, which a default body would cite, speaks of all numbers.
 impl Listed for Gray {
     ghost listed = { λ g. gray_listed (gray_cell g.0) };
 

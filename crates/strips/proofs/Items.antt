@@ -5,7 +5,7 @@ use Rattle.std.specs.Option.{option_map}
 use Rattle.std.proofs.lemmas.Bool.{eqb-true, ltb-true, lt-ltb}
 use Rattle.morphology.specs.declared.call.Filter.{Filter}
 use Rattle.morphology.specs.declared.call.Filter.TheVariants.{Erode, Dilate, Open, Close}
-use Rattle.strips.specs.Items.{filter_number, filter_of, head_item, corner_item, extent_item, point_item, end_item, item_by, item_of, item_word, Fits}
+use Rattle.strips.specs.Items.{filter_number, filter_of, head_item, pair, corner_item, extent_item, point_item, end_item, item_by, item_of, item_word, Fits}
 use Rattle.strips.specs.declared.item.Item.{Item}
 use Rattle.strips.specs.declared.item.Item.TheVariants.{Head, Cells, Corner, Extent, Point, Call, End}
 
@@ -34,14 +34,19 @@ passed : {A : Type 0} (b : Bool) (x y : A) → cond b (Some x) None ≡ Some y �
 passed true x y e = (refl, cc)
 passed false x y e = absurd cc
 
+-- a test that let two numbers through, of which f makes an item
+paired : (b : Bool) (f : ℕ → ℕ → Item) (p : ℕ × ℕ) (y : Item) → option_map (λ q. f q.0 q.1) (cond b (Some p) None) ≡ Some y → (b ≡ true) × (f p.0 p.1 ≡ y)
+paired true f p y e = (refl, cc)
+paired false f p y e = absurd cc
+
 says_corner : (b : ℕ) (x : Item) → corner_item b ≡ Some x → Says 3 b x
 says_corner b x e =
-    let p = passed (nat_lt b (2 ^ 24)) (Corner (b / 2 ^ 12) (b % 2 ^ 12)) x e in
+    let p = paired (nat_lt b (2 ^ 24)) Corner (b / 2 ^ 12, b % 2 ^ 12) x e in
     subst (Says 3 b) p.1 (refl, ltb-true b (2 ^ 24) p.0, refl, refl)
 
 says_extent : (b : ℕ) (x : Item) → extent_item b ≡ Some x → Says 4 b x
 says_extent b x e =
-    let p = passed (nat_lt b (2 ^ 24)) (Extent (b / 2 ^ 12) (b % 2 ^ 12)) x e in
+    let p = paired (nat_lt b (2 ^ 24)) Extent (b / 2 ^ 12, b % 2 ^ 12) x e in
     subst (Says 4 b) p.1 (refl, ltb-true b (2 ^ 24) p.0, refl, refl)
 
 says_point : (b : ℕ) (x : Item) → point_item b ≡ Some x → Says 5 b x
@@ -163,8 +168,8 @@ filter_again Open = refl
 filter_again Close = refl
 
 -- a pair of numbers of twelve bits
-pair_again : {A : Type 0} (f : ℕ → ℕ → A) (c r : ℕ) → c < 2 ^ 12 → r < 2 ^ 12 → cond (nat_lt (c * 2 ^ 12 + r) (2 ^ 24)) (Some (f ((c * 2 ^ 12 + r) / 2 ^ 12) ((c * 2 ^ 12 + r) % 2 ^ 12))) None ≡ Some (f c r)
-pair_again f c r hc hr =
+pair_again : (c r : ℕ) → c < 2 ^ 12 → r < 2 ^ 12 → pair (c * 2 ^ 12 + r) ≡ Some (c, r)
+pair_again c r hc hr =
     let t = lt-ltb (c * 2 ^ 12 + r) (2 ^ 24) (omega arith) in
     let upper : (c * 2 ^ 12 + r) / 2 ^ 12 ≡ c = omega arith in
     let lower : (c * 2 ^ 12 + r) % 2 ^ 12 ≡ r = omega arith in
@@ -182,8 +187,8 @@ item_again (Head k w h) fits =
     let low : b % 2 ^ 12 ≡ h = omega arith in
     by_parts (item_word (Head k w h)) 1 b (omega arith) (omega arith) ∙ rw (top, middle, low) refl
 item_again (Cells n) fits = by_parts (item_word (Cells n)) 2 n refl fits
-item_again (Corner c r) fits = by_parts (item_word (Corner c r)) 3 (c * 2 ^ 12 + r) (omega arith) (omega (arith, fits.0, fits.1)) ∙ pair_again Corner c r fits.0 fits.1
-item_again (Extent w h) fits = by_parts (item_word (Extent w h)) 4 (w * 2 ^ 12 + h) (omega arith) (omega (arith, fits.0, fits.1)) ∙ pair_again Extent w h fits.0 fits.1
+item_again (Corner c r) fits = by_parts (item_word (Corner c r)) 3 (c * 2 ^ 12 + r) (omega arith) (omega (arith, fits.0, fits.1)) ∙ ap (option_map (λ p. Corner p.0 p.1)) (pair_again c r fits.0 fits.1)
+item_again (Extent w h) fits = by_parts (item_word (Extent w h)) 4 (w * 2 ^ 12 + h) (omega arith) (omega (arith, fits.0, fits.1)) ∙ ap (option_map (λ p. Extent p.0 p.1)) (pair_again w h fits.0 fits.1)
 item_again (Point u v) fits =
     let b = u * 2 ^ 5 + v in
     let f0 = fits.0 in

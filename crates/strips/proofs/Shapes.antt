@@ -1,5 +1,6 @@
 -- The width and the height of a head have twelve bits each.
-use Rattle.std.proofs.Common.{◌≡◌, ℕ, ◌+◌, ◌^◌, ◌<◌, List, [], ◌∷◌, Option, Some, None, Result, Ok, Err, refl, ap, subst}
+use Rattle.std.proofs.Common.{◌≡◌, ℕ, ◌+◌, ◌^◌, ◌<◌, List, [], ◌∷◌, Option, Some, None, Result, Ok, Err, refl, sym, ap, subst}
+use Rattle.std.specs.Prelude.{IfOk}
 use Rattle.strips.specs.Kinds.{kind_of}
 use Rattle.strips.specs.Items.{item_of, Fits}
 use Rattle.strips.specs.Reading.{Left, from, ◌>>=◌, said, word_due, item_due, shape_by, shape_of}
@@ -50,11 +51,12 @@ shape_is i (Point u v) s e = absurd cc
 shape_is i (Call q) s e = absurd cc
 shape_is i End s e = absurd cc
 
--- the item of the code and its shape
-pub shape_within : (l m : Left) (i : ℕ) (x : Item) (s : Shape) → item_due l ≡ Ok (x, m) → shape_of i x ≡ Ok s → (s.width < 2 ^ 12) × (s.height < 2 ^ 12)
-shape_within l m i x s e h =
+-- the shape that was read, if one was
+pub shape_within : (l m : Left) (i : ℕ) (x : Item) (r : Result Shape StripFault) → item_due l ≡ Ok (x, m) → r ≡ shape_of i x → IfOk r (λ s. (s.width < 2 ^ 12) × (s.height < 2 ^ 12))
+shape_within l m i x (Ok s) e h =
     let t = item_first l.place l.words x m e in
-    let k = shape_is i x s h in
+    let k = shape_is i x s (sym h) in
     let fits = (item_takes t.0 x t.3).1 in
     let head = subst Fits k.1 fits in
     (head.1, head.2)
+shape_within l m i x (Err f) e h = tt

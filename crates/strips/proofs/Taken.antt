@@ -162,6 +162,21 @@ raws_takes k (suc n) i (w ∷ ws) m fit e =
       place = omega (arith, t.place);
     }
 
+-- as many words went as were read
+pub raws_there : (k : CellKind) (n i : ℕ) (ws : List ℕ) (m : Left) → raws_due k n (from i ws) ≡ Ok m → n + length m.words ≡ length ws
+unfolding raws_due
+raws_there k zero i ws m e = omega (arith, ap (λ (l : Left). length l.words) (ok_is (from i ws) m e))
+raws_there k (suc n) i [] m e =
+    let goes : ℕ × Left → Result Left StripFault = λ c. raws_due k n c.1 in
+    let b = bind_ok (cell_due k (from i [])) goes m e in
+    absurd (cell_none k i b.0.0 b.0.1 b.1)
+raws_there k (suc n) i (w ∷ ws) m e =
+    let goes : ℕ × Left → Result Left StripFault = λ c. raws_due k n c.1 in
+    let b = bind_ok (cell_due k (from i (w ∷ ws))) goes m e in
+    let c = cell_takes k i w ws b.0.0 b.0.1 b.1 in
+    let next : raws_due k n (from (i + 1) ws) ≡ Ok m = ap (raws_due k n) c.1 ∙ b.2 in
+    omega (arith, raws_there k n (i + 1) ws m next)
+
 -- ---- the window
 
 pub corner_is : (i : ℕ) (x : Item) (c : ℕ × ℕ) → corner_of i x ≡ Ok c → x ≡ Corner c.0 c.1
@@ -266,6 +281,7 @@ pub record TheSteps (i : ℕ) (ws : List ℕ) (n : ℕ) (m : Left) : Type 0 wher
   pub front : ws ≡ step_words (map step_of (take n ws)) ++ item_word End ∷ m.words
   pub fits : AllByRecursion (λ s. Fits (step_item s)) (map step_of (take n ws))
   pub place : m.place ≡ i + length (step_words (map step_of (take n ws))) + 1
+  pub there : n < length ws
 
 -- the number of steps, seen from the first of them
 one_step : (i w : ℕ) (ws : List ℕ) (n : ℕ) (m : Left) → IsStep w true → TheSteps (i + 1) ws n m → TheSteps i (w ∷ ws) (n + 1) m
@@ -273,6 +289,7 @@ one_step i w ws n m s t = rw add-one (record {
   front = ap (λ (x : ℕ). x ∷ ws) (sym s.0) ∙ ap (λ (v : List ℕ). item_word (step_item (step_of w)) ∷ v) t.front;
   fits = (s.1, t.fits);
   place = omega (arith, t.place);
+  there = omega (arith, t.there);
 })
 
 steps_by : (i w : ℕ) (ws : List ℕ) (b : Bool) (n : ℕ) (m : Left) → IsStep w b → cond b (steps_from (i + 1) ws >>= one_more) (Ok (0, from (i + 1) ws)) ≡ Ok (n, m)
@@ -283,7 +300,7 @@ steps_by i w ws true n m s e more =
     subst (λ (q : ℕ × Left). TheSteps i (w ∷ ws) q.0 q.1) (ok_is one (n, m) p.2) (one_step i w ws p.0.0 p.0.1 s (more p.0.0 p.0.1 p.1))
 steps_by i w ws false n m s e more =
     let one : ℕ × Left = (0, from (i + 1) ws) in
-    let made : TheSteps i (w ∷ ws) 0 (from (i + 1) ws) = record { front = ap (λ (x : ℕ). x ∷ ws) (sym s); fits = tt; place = omega arith } in
+    let made : TheSteps i (w ∷ ws) 0 (from (i + 1) ws) = record { front = ap (λ (x : ℕ). x ∷ ws) (sym s); fits = tt; place = omega arith; there = omega arith } in
     subst (λ (q : ℕ × Left). TheSteps i (w ∷ ws) q.0 q.1) (ok_is one (n, m) e) made
 
 pub steps_take : (i : ℕ) (ws : List ℕ) (n : ℕ) (m : Left) → steps_from i ws ≡ Ok (n, m) → TheSteps i ws n m

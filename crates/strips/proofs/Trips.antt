@@ -1,21 +1,20 @@
 -- The reader and the layout are each other's inverse.
-use Rattle.std.proofs.Common.{◌≡◌, ℕ, ◌+◌, ◌*◌, ◌%◌, ◌≤◌, Bool, cond, ltb, inl, inr, List, length, take, Option, Result, Ok, Err, sym, ap, subst, ◌∙◌, arith}
+use Rattle.std.proofs.Common.{◌≡◌, ℕ, ◌+◌, ◌*◌, ◌%◌, ◌≤◌, Bool, cond, ltb, inl, inr, List, length, Result, Ok, Err, sym, ap, subst, ◌∙◌, arith}
 use Rattle.std.specs.Prelude.{IfOk}
 use Rattle.std.specs.List.{flat_map}
 use Rattle.std.proofs.lemmas.Bool.{le-ltb, ltb-false}
 use Rattle.strips.specs.Words.{word_bytes, words, over}
-use Rattle.strips.specs.Jobs.{Job, window_words, job_words, layout}
-use Rattle.strips.specs.Reading.{Left, from, shape_due, count_due, raws_due, window_due, job_from, reading}
+use Rattle.strips.specs.Jobs.{Job, job_words, layout}
+use Rattle.strips.specs.Reading.{Left, from, shape_due, count_due, raws_due, job_from, reading}
 use Rattle.strips.specs.Views.{job_of, Reads}
 use Rattle.strips.specs.Laws.{Told, OneJob}
 use Rattle.strips.specs.declared.fault.StripFault.{StripFault}
 use Rattle.strips.specs.declared.fault.StripFault.TheVariants.{TooLong}
 use Rattle.strips.specs.declared.parts.Shape.{Shape}
-use Rattle.strips.specs.declared.parts.Frame.{Frame}
 use Rattle.strips.specs.declared.job.JobStrip.{JobStrip}
 use Rattle.strips.proofs.Items.{chosen}
 use Rattle.strips.proofs.Shapes.{ok_is}
-use Rattle.strips.proofs.Taken.{AreWords, shape_takes, count_takes, raws_takes, window_takes}
+use Rattle.strips.proofs.Taken.{shape_takes, count_takes, raws_there}
 use Rattle.strips.proofs.Spelled.{AreBytes, words_fit, bytes_again, words_again, length_spelled}
 use Rattle.strips.proofs.Told.{job_takes}
 use Rattle.strips.proofs.Again.{job_again}
@@ -33,20 +32,23 @@ told bs j h short e =
       spelled = spelled;
     }
 
+-- a strip that is not too long is read by its words
+pub short_reading : (bs ws : List ℕ) (n : ℕ) → length bs ≤ 65536 → n ≡ over bs → ws ≡ words bs → job_from n ws ≡ reading bs
+unfolding reading
+short_reading bs ws n short left whole =
+    ap (λ (k : ℕ). job_from k ws) left
+    ∙ ap (job_from (over bs)) whole
+    ∙ sym (ap (λ (b : Bool). cond b (Err TooLong) (job_from (over bs) (words bs))) (le-ltb 65536 (length bs) short))
+
 -- the strip of a job is read as that job
 pub retold : (bs : List ℕ) (j : Job) → Told bs j → reading bs ≡ Ok j
-unfolding reading
 retold bs j t =
     let p = t.proper in
     let ws : words bs ≡ job_words j = ap words (sym t.spelled) ∙ words_again (job_words j) in
     let len : length bs ≡ 4 * length (job_words j) = ap (λ (v : List ℕ). length v) (sym t.spelled) ∙ length_spelled (job_words j) in
     let whole : length bs % 4 ≡ 0 = omega arith in
     let short : length bs ≤ 65536 = subst (λ (v : List ℕ). length v ≤ 65536) t.spelled p.short in
-    let read : Result Job StripFault = job_from (over bs) (words bs) in
-    ap (λ (b : Bool). cond b (Err TooLong) read) (le-ltb 65536 (length bs) short)
-    ∙ ap (λ (k : ℕ). job_from k (words bs)) whole
-    ∙ ap (λ (v : List ℕ). job_from 0 v) ws
-    ∙ job_again j p.sound
+    sym (short_reading bs (job_words j) 0 short (sym whole) (sym ws)) ∙ job_again j p.sound
 
 -- a strip that is read is short enough, and its words are read
 read_words : (bs : List ℕ) (j : Job) → reading bs ≡ Ok j → (length bs ≤ 65536) × (job_from (over bs) (words bs) ≡ Ok j)
@@ -61,17 +63,13 @@ pub found : (bs : List ℕ) (r : Result JobStrip StripFault) → AreBytes bs →
 found bs (Ok s) h e = let w = read_words bs (job_of s) e in told bs (job_of s) h w.0 w.1
 found bs (Err f) h e = tt
 
--- where the first step stands
-pub placed : (ws : List ℕ) (s : Shape) (c : ℕ) (f : Option Frame) (left1 left2 left3 left4 : Left) → AreWords ws → shape_due (from 0 ws) ≡ Ok (s, left1) → count_due (s.width * s.height) left1 ≡ Ok (c, left2)
-    → raws_due s.kind c left2 ≡ Ok left3 → window_due left3 ≡ Ok (f, left4) → left4.place ≡ 2 + length (take c left2.words) + length (window_words f)
-placed ws s c f left1 left2 left3 left4 fit h0 h1 h2 h3 =
+-- the raw words that were passed are there
+pub raws_within : (ws : List ℕ) (s : Shape) (c : ℕ) (left1 left2 left3 : Left) → shape_due (from 0 ws) ≡ Ok (s, left1) → count_due (s.width * s.height) left1 ≡ Ok (c, left2) → raws_due s.kind c left2 ≡ Ok left3 → left2.place + c ≤ length ws
+raws_within ws s c left1 left2 left3 h0 h1 h2 =
     let t0 = shape_takes ws s left1 h0 in
     let t1 = count_takes (s.width * s.height) left1.place left1.words c left2 h1 in
-    let fit1 : AreWords left1.words = (subst AreWords t0.front fit).1 in
-    let fit2 : AreWords left2.words = (subst AreWords t1.front fit1).1 in
-    let t2 = raws_takes s.kind c left2.place left2.words left3 fit2 h2 in
-    let t3 = window_takes left3.place left3.words f left4 h3 in
-    omega (arith, t0.place, t1.place, t2.place, t2.count, t3.place)
+    let long : List ℕ → ℕ = λ v. length v in
+    omega (arith, t0.place, t1.place, ap long t0.front, ap long t1.front, raws_there s.kind c left2.place left2.words left3 h2)
 
 pub one_job : OneJob
 one_job bs j k t u = ok_is j k (sym (retold bs j t) ∙ retold bs k u)

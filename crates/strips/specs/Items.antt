@@ -1,6 +1,7 @@
 -- What a word with a kind says.
 --     filter_number q    the number of a filter in a call
 --     filter_of n        the filter with that number, if there is one
+--     pair b             the two numbers of twelve bits that b is, if its other bits are 0
 --     item_of w          what the word w says; nothing where its kind is not 1 to 7, its call not 1 to 4 or an unused bit set
 --     item_word x        the word that says x
 --     Fits x             the values of x lie in their fields
@@ -25,13 +26,17 @@ filter_of n = cond (n == 1) (Some Erode) (cond (n == 2) (Some Dilate) (cond (n =
 abbrev pub head_item : ℕ → Option Item
 head_item b = Some (Head (b / 2 ^ 24) (b / 2 ^ 12 % 2 ^ 12) (b % 2 ^ 12))
 
--- bits 23 to 12 the column, 11 to 0 the row
-abbrev pub corner_item : ℕ → Option Item
-corner_item b = cond (nat_lt b (2 ^ 24)) (Some (Corner (b / 2 ^ 12) (b % 2 ^ 12))) None
+-- bits 23 to 12, and 11 to 0
+abbrev pub pair : ℕ → Option (ℕ × ℕ)
+pair b = cond (nat_lt b (2 ^ 24)) (Some (b / 2 ^ 12, b % 2 ^ 12)) None
 
--- bits 23 to 12 the width, 11 to 0 the height
+-- the column and the row
+abbrev pub corner_item : ℕ → Option Item
+corner_item b = option_map (λ p. Corner p.0 p.1) (pair b)
+
+-- the width and the height
 abbrev pub extent_item : ℕ → Option Item
-extent_item b = cond (nat_lt b (2 ^ 24)) (Some (Extent (b / 2 ^ 12) (b % 2 ^ 12))) None
+extent_item b = option_map (λ p. Extent p.0 p.1) (pair b)
 
 -- bits 9 to 5 are u + 15, 4 to 0 are v + 15
 abbrev pub point_item : ℕ → Option Item

@@ -1,8 +1,9 @@
 -- The kinds of cell by number, and their words.
 --     kind_number k      the number of a kind of cell in a head
 --     kind_of n          the kind of cell with that number, if there is one
+--     kind_name k        its name, byte by byte
 --     is_cell k w        the word w is a cell of the kind k
-use Rattle.std.specs.Prelude.{ℕ, Bool, cond, Some, None, Option, ◌==◌, is_some}
+use Rattle.std.specs.Prelude.{ℕ, Bool, cond, List, codes, Some, None, Option, ◌==◌, is_some}
 use Rattle.cells.specs.Words.{gray_word, flags_word, height_word, return_word}
 use Rattle.strips.specs.declared.kind.CellKind.{CellKind}
 use Rattle.strips.specs.declared.kind.CellKind.TheVariants.{Gray, Height, Flags, Return}
@@ -15,6 +16,12 @@ kind_number Return = 4
 
 abbrev pub kind_of : ℕ → Option CellKind
 kind_of n = cond (n == 1) (Some Gray) (cond (n == 2) (Some Height) (cond (n == 3) (Some Flags) (cond (n == 4) (Some Return) None)))
+
+abbrev pub kind_name : CellKind → List ℕ
+kind_name Gray = codes "gray"
+kind_name Height = codes "height"
+kind_name Flags = codes "flags"
+kind_name Return = codes "return"
 
 -- by the word form of the kind
 abbrev pub is_cell : CellKind → ℕ → Bool

@@ -3,10 +3,9 @@
 --     Gives d s t r      r, the answer of a call that took the strip from s to t, is what the reading d gives at s
 --     Passes d s t r     the same, where nothing but what is left is told
 --     job_of s           the job that an accepted strip tells
---     steps_start s      the word where its steps start
 --     Reads r a          a, the reader's answer, is the reading r
-use Rattle.std.specs.Prelude.{◌≡◌, ℕ, map, take, drop, Ok, Err, Result}
-use Rattle.strips.specs.Words.{words}
+use Rattle.std.specs.Prelude.{◌≡◌, map, drop, Ok, Err, Result}
+use Rattle.strips.specs.Words.{numbers}
 use Rattle.strips.specs.Jobs.{Job, step_of}
 use Rattle.strips.specs.Reading.{Left, from}
 use Rattle.strips.specs.declared.fault.StripFault.{StripFault}
@@ -14,29 +13,26 @@ use Rattle.strips.specs.declared.strip.Strip.{Strip}
 use Rattle.strips.specs.declared.job.JobStrip.{JobStrip}
 
 abbrev pub left : Strip → Left
-left s = from s.place (drop s.place (words s.bytes.now))
+left s = from s.place (drop s.place (numbers s.words.now))
 
 abbrev pub Gives : {A : Type 0} → (Left → Result (A × Left) StripFault) → Strip → Strip → Result A StripFault → Type 0
-Gives due s t (Ok x) = (due (left s) ≡ Ok (x, left t)) × (t.bytes.now ≡ s.bytes.now)
+Gives due s t (Ok x) = (due (left s) ≡ Ok (x, left t)) × (t.words.now ≡ s.words.now)
 Gives due s t (Err f) = due (left s) ≡ Err f
 
 abbrev pub Passes : {A : Type 0} → (Left → Result Left StripFault) → Strip → Strip → Result A StripFault → Type 0
-Passes due s t (Ok x) = (due (left s) ≡ Ok (left t)) × (t.bytes.now ≡ s.bytes.now)
+Passes due s t (Ok x) = (due (left s) ≡ Ok (left t)) × (t.words.now ≡ s.words.now)
 Passes due s t (Err f) = due (left s) ≡ Err f
 
--- the raw words and the steps stand where the reader passed them
+-- its raw words, and the steps that its other words are
 abbrev pub job_of : JobStrip → Job
 job_of s = record {
   kind = s.shape.kind;
   width = s.shape.width;
   height = s.shape.height;
-  raws = take s.cells (drop s.first_cell (words s.bytes.now));
+  raws = numbers s.raws.now;
   window = s.window;
-  steps = map step_of (take s.steps (drop s.first_step (words s.bytes.now)));
+  steps = map step_of (numbers s.steps.now);
 }
-
-abbrev pub steps_start : JobStrip → ℕ
-steps_start s = s.first_step
 
 abbrev pub Reads : Result Job StripFault → Result JobStrip StripFault → Type 0
 Reads r (Ok s) = r ≡ Ok (job_of s)

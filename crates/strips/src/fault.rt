@@ -45,12 +45,12 @@ impl StripFault {
     {
         match self {
             StripFault::TooLong => 16_384,
-            StripFault::CutShort(i) => i,
-            StripFault::NoWord(i) => i,
-            StripFault::OutOfOrder(i) => i,
-            StripFault::NoKind(i) => i,
-            StripFault::WrongCount(i) => i,
-            StripFault::NoCell(i) => i,
+            StripFault::CutShort(i)
+            | StripFault::NoWord(i)
+            | StripFault::OutOfOrder(i)
+            | StripFault::NoKind(i)
+            | StripFault::WrongCount(i)
+            | StripFault::NoCell(i) => i,
         }
     }
 }

@@ -1,7 +1,7 @@
 // What a word with a kind says.
-ghost use Rattle.std.specs.Prelude.{◌≡◌, ◌<◌, ◌^◌, Some};
+ghost use Rattle.std.specs.Prelude.{◌≡◌, ◌<◌, ◌^◌, Some, ok_or};
 ghost use Rattle.std.specs.Option.{option_map};
-ghost use Rattle.strips.specs.Items.{filter_of, head_item, corner_item, extent_item, point_item, end_item, item_by, item_of};
+ghost use Rattle.strips.specs.Items.{filter_of, head_item, pair, point_item, end_item, item_by, item_of};
 ghost use Rattle.strips.specs.declared.item.Item.TheVariants.{Call};
 
 use morphology::call::Filter;
@@ -9,29 +9,34 @@ use morphology::call::Filter;
 // What a word says, by its kind.
 #[derive(Clone, Copy, PartialEq, Eq, Debug)]
 pub enum Item {
-    // The number of a kind of cell, and the width and the height of the sheet.
-    Head(u8, u32, u32),
+    // The number of a kind of cell, and the size of the sheet.
+    Head { kind: u8, width: u32, height: u32 },
     // So many cell words follow.
     Cells(u32),
-    // The column and the row where a window begins.
-    Corner(u32, u32),
-    // The width and the height of the window.
-    Extent(u32, u32),
+    // Where a window begins.
+    Corner { column: u32, row: u32 },
+    // The size of the window.
+    Extent { width: u32, height: u32 },
     // A point of a mask, its u and its v counted from -15.
-    Point(u8, u8),
+    Point { u: u8, v: u8 },
     // A filter under the mask.
     Call(Filter),
     // Nothing follows.
     End,
 }
 
-impl Item {
-    // What the word says. None where its kind is not 1 to 7, its call not 1 to 4, or an unused bit is set.
+// A word that says nothing: its kind is not 1 to 7, its call not 1 to 4, or an unused bit is set.
+#[derive(Clone, Copy, PartialEq, Eq, Debug)]
+pub struct SaysNothing(pub u32);
+
+impl TryFrom<u32> for Item {
+    type Error = SaysNothing;
+
+    ghost try_from_gives = { λ w r. r ≡ ok_or (item_of w) (record { 0 = w }) };
+
     #[tactic(auto, unfolding(crate::specs::Items::item_of))]
-    pub fn from_word(word: u32) -> Option<Item>
-        ensures { result ≡ item_of word }
-    {
-        item_by(word / 0x1000_0000, word % 0x1000_0000)
+    fn try_from(word: u32) -> Result<Item, SaysNothing> {
+        item_by(word / 0x1000_0000, word % 0x1000_0000).ok_or(SaysNothing(word))
     }
 }
 
@@ -43,8 +48,8 @@ fn item_by(kind: u32, body: u32) -> Option<Item>
     match kind {
         1 => Some(head(body)),
         2 => Some(Item::Cells(body)),
-        3 => corner(body),
-        4 => extent(body),
+        3 => pair(body).map(|(column, row)| Item::Corner { column, row }),
+        4 => pair(body).map(|(width, height)| Item::Extent { width, height }),
         5 => point(body),
         6 => call(body),
         7 => end(body),
@@ -57,30 +62,19 @@ fn head(body: u32) -> Item
     requires { body < 2 ^ 28 }
     ensures { Some result ≡ head_item body }
 {
-    Item::Head(
-        (body / 0x100_0000) as u8,
-        body / 0x1000 % 0x1000,
-        body % 0x1000,
-    )
-}
-
-// Bits 23 to 12 are the column, 11 to 0 the row, and the others are 0.
-fn corner(body: u32) -> Option<Item>
-    ensures { result ≡ corner_item body }
-{
-    if body < 0x100_0000 {
-        Some(Item::Corner(body / 0x1000, body % 0x1000))
-    } else {
-        None
+    Item::Head {
+        kind: (body / 0x100_0000) as u8,
+        width: body / 0x1000 % 0x1000,
+        height: body % 0x1000,
     }
 }
 
-// Bits 23 to 12 are the width, 11 to 0 the height, and the others are 0.
-fn extent(body: u32) -> Option<Item>
-    ensures { result ≡ extent_item body }
+// The numbers in bits 23 to 12 and 11 to 0; the others are 0.
+fn pair(body: u32) -> Option<(u32, u32)>
+    ensures { result ≡ pair body }
 {
     if body < 0x100_0000 {
-        Some(Item::Extent(body / 0x1000, body % 0x1000))
+        Some((body / 0x1000, body % 0x1000))
     } else {
         None
     }
@@ -91,7 +85,10 @@ fn point(body: u32) -> Option<Item>
     ensures { result ≡ point_item body }
 {
     if body < 0x400 {
-        Some(Item::Point((body / 0x20) as u8, (body % 0x20) as u8))
+        Some(Item::Point {
+            u: (body / 0x20) as u8,
+            v: (body % 0x20) as u8,
+        })
     } else {
         None
     }

@@ -1,10 +1,10 @@
 // A job, read from its strip.
 ghost use Rattle.std.specs.Prelude.{◌≡◌, ◌+◌, ◌^◌, ◌<◌, length, IfOk, IfErr, Ok};
 ghost use Rattle.std.specs.List.{slice_get};
-ghost use Rattle.strips.specs.Words.{over, words};
+ghost use Rattle.strips.specs.Words.{numbers};
 ghost use Rattle.strips.specs.Reading.{reading, job_from};
 ghost use Rattle.strips.specs.Jobs.{Job, first_step, step_of, step_place};
-ghost use Rattle.strips.specs.Views.{job_of, steps_start, Reads};
+ghost use Rattle.strips.specs.Views.{job_of, Reads};
 ghost use Rattle.strips.specs.Laws.{Told, TellsFirst, TellsGround};
 
 use crate::fault::StripFault;
@@ -12,23 +12,20 @@ use crate::item::Item;
 use crate::kind::CellKind;
 use crate::parts::{Frame, Shape, Step};
 use crate::strip::Strip;
-use crate::words::word_at;
+use crate::words::{part, word_at};
 
 // The most bytes that a strip has.
 const MOST: usize = 65_536;
 
-// An accepted strip: the lent bytes, and where the parts of the job stand in them.
+// An accepted strip: the parts of the job, the words of which are lent.
 #[derive(Clone, Copy)]
 pub struct JobStrip<'a> {
-    bytes: &'a [u8],
     shape: Shape,
-    // The word of the first cell, and how many cells there are.
-    first_cell: usize,
-    cells: usize,
+    // The raw words of the cells, row by row.
+    raws: &'a [[u8; 4]],
     window: Option<Frame>,
-    // The word of the first step, and how many steps there are.
-    first_step: usize,
-    steps: usize,
+    // The words of the steps.
+    steps: &'a [[u8; 4]],
 }
 
 impl JobStrip<'_> {
@@ -53,15 +50,18 @@ impl JobStrip<'_> {
         self.shape.height
     }
 
+    // The raw words of the cells, row by row, the highest byte of each first.
+    pub fn raws(&self) -> &[[u8; 4]]
+        ensures { numbers result.now ≡ (job_of self.now).raws }
+    {
+        self.raws
+    }
+
     // The raw word of the i-th cell, row by row.
     pub fn raw(&self, i: usize) -> Option<u32>
         ensures { result ≡ slice_get (job_of self.now).raws i }
     {
-        if i < self.cells {
-            word_at(self.bytes, self.first_cell, i)
-        } else {
-            None
-        }
+        word_at(self.raws, i)
     }
 
     // The window of the sheet, if there is one.
@@ -71,39 +71,30 @@ impl JobStrip<'_> {
         self.window
     }
 
-    // How many steps there are. They all stand in a strip that was read; it is seen again here, so that the count needs no
-    // fact kept beside it.
+    // How many steps there are.
     pub fn steps(&self) -> usize
         ensures answer { result ≡ length (job_of self.now).steps }
-        ensures within { 0 < result → steps_start self.now + result < 2 ^ 63 }
+        ensures within { first_step (job_of self.now) + result < 2 ^ 63 }
     {
-        let words = self.bytes.len() / 4;
-        if self.first_step < words {
-            self.steps.min(words - self.first_step)
-        } else {
-            0
-        }
+        self.steps.len()
     }
 
     // The i-th step.
     pub fn step(&self, i: usize) -> Option<Step>
         ensures { result ≡ slice_get (job_of self.now).steps i }
     {
-        if i >= self.steps {
-            return None;
-        }
-        match word_at(self.bytes, self.first_step, i) {
-            Some(word) => Some(step_of(word)),
-            None => None,
-        }
+        word_at(self.steps, i).map(step_of)
     }
 
     // The number of the word that is the i-th step.
     pub fn step_place(&self, i: usize) -> Option<usize>
-        ensures { result ≡ step_place (steps_start self.now) (length (job_of self.now).steps) i }
+        ensures { result ≡ step_place (first_step (job_of self.now)) (length (job_of self.now).steps) i }
     {
-        if i < self.steps() {
-            Some(self.first_step + i)
+        // The head and the cells word, the raw words, and the two words of a window stand before it.
+        let window = if self.window.is_some() { 2 } else { 0 };
+        let first = 2 + self.raws.len() + window;
+        if i < self.steps.len() {
+            Some(first + i)
         } else {
             None
         }
@@ -114,10 +105,10 @@ impl JobStrip<'_> {
 fn step_of(word: u32) -> Step
     ensures { result ≡ step_of word }
 {
-    match Item::from_word(word) {
-        Some(Item::Point(u, v)) => Step::Point(u, v),
-        Some(Item::Call(filter)) => Step::Call(filter),
-        _ => Step::Point(0, 0),
+    match Item::try_from(word) {
+        Ok(Item::Point { u, v }) => Step::Point { u, v },
+        Ok(Item::Call(filter)) => Step::Call(filter),
+        _ => Step::Point { u: 0, v: 0 },
     }
 }
 
@@ -133,8 +124,6 @@ pub fn read(bytes: &[u8]) -> Result<JobStrip<'_>, StripFault>
     ensures first { IfErr result (λ f. TellsFirst bytes.now f) }
     // Its number is that of what stands there.
     ensures cause { IfErr result (λ f. TellsGround bytes.now f) }
-    // The first step is the word after the raw words and the window.
-    ensures placed { IfOk result (λ s. steps_start s ≡ first_step (job_of s)) }
 {
     judged(bytes)
 }
@@ -142,23 +131,21 @@ pub fn read(bytes: &[u8]) -> Result<JobStrip<'_>, StripFault>
 // Judges the length, and then the words.
 #[tactic(auto, unfolding(crate::specs::Reading::reading))]
 fn judged(bytes: &[u8]) -> Result<JobStrip<'_>, StripFault>
-    ensures exact { Reads (reading bytes.now) result }
-    ensures placed { IfOk result (λ s. steps_start s ≡ first_step (job_of s)) }
+    ensures { Reads (reading bytes.now) result }
 {
     if bytes.len() > MOST {
         return Err(StripFault::TooLong);
     }
-    let job = read_words(bytes)?;
-    Ok(job)
+    let (words, over) = bytes.as_chunks();
+    read_words(words, over)
 }
 
-// Reads the words, whatever their number.
+// Reads the words, whatever their number, with the bytes behind them that are no whole word.
 #[tactic(auto, unfolding(crate::specs::Reading::job_from))]
-fn read_words(bytes: &[u8]) -> Result<JobStrip<'_>, StripFault>
-    ensures exact { Reads (job_from (over bytes.now) (words bytes.now)) result }
-    ensures placed { IfOk result (λ s. steps_start s ≡ first_step (job_of s)) }
+fn read_words<'a>(words: &'a [[u8; 4]], over: &[u8]) -> Result<JobStrip<'a>, StripFault>
+    ensures { Reads (job_from (length over.now) (numbers words.now)) result }
 {
-    let mut strip = Strip { bytes, place: 0 };
+    let mut strip = Strip { words, place: 0 };
     let shape = strip.shape()?;
     let cells = strip.count(shape.width * shape.height)?;
     let first_cell = strip.place;
@@ -166,14 +153,11 @@ fn read_words(bytes: &[u8]) -> Result<JobStrip<'_>, StripFault>
     let window = strip.window()?;
     let first_step = strip.place;
     let steps = strip.steps()?;
-    strip.ended()?;
+    strip.ended(over)?;
     Ok(JobStrip {
-        bytes,
         shape,
-        first_cell,
-        cells: cells as usize,
+        raws: part(words, first_cell, cells as usize),
         window,
-        first_step,
-        steps,
+        steps: part(words, first_step, steps),
     })
 }

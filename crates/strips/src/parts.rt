@@ -27,7 +27,7 @@ pub struct Frame {
 #[derive(Clone, Copy, PartialEq, Eq, Debug)]
 pub enum Step {
     // A point of a mask, its u and its v counted from -15.
-    Point(u8, u8),
+    Point { u: u8, v: u8 },
     // A filter under the mask.
     Call(Filter),
 }

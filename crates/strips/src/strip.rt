@@ -1,7 +1,6 @@
 // A strip that is being read, word by word.
-ghost use Rattle.std.specs.Prelude.{◌≡◌, ◌^◌, ◌<◌, IfOk};
-ghost use Rattle.strips.specs.Words.{over};
-ghost use Rattle.strips.specs.Reading.{word_due, item_due, shape_of, shape_due, count_of, count_due, cell_due, raws_due, corner_of, extent_of, frame_due, begins, window_due, is_step, step_due, steps_due, ended};
+ghost use Rattle.std.specs.Prelude.{◌≡◌, ◌^◌, ◌<◌, length, IfOk};
+ghost use Rattle.strips.specs.Reading.{word_due, item_due, shape_of, shape_due, count_of, count_due, cell_due, raws_due, frame_due, begins, window_due, is_step, step_due, steps_due, ended};
 ghost use Rattle.strips.specs.Views.{left, Gives, Passes};
 
 use crate::fault::StripFault;
@@ -10,25 +9,21 @@ use crate::kind::CellKind;
 use crate::parts::{Frame, Shape};
 use crate::words::word_at;
 
-// The lent bytes, and the number of the next word.
+// The words of a strip, and the number of the next one.
 #[derive(Drop)]
 pub(crate) struct Strip<'a> {
-    pub(crate) bytes: &'a [u8],
+    pub(crate) words: &'a [[u8; 4]],
     pub(crate) place: usize,
 }
 
-impl<'a> Strip<'a> {
+impl Strip<'_> {
     // Takes the next word.
     fn word(&mut self) -> Result<u32, StripFault>
         ensures { Gives word_due self.old self.new result }
     {
-        match word_at(self.bytes, self.place, 0) {
-            Some(word) => {
-                self.place += 1;
-                Ok(word)
-            }
-            None => Err(StripFault::CutShort(self.place)),
-        }
+        let word = word_at(self.words, self.place).ok_or(StripFault::CutShort(self.place))?;
+        self.place += 1;
+        Ok(word)
     }
 
     // Takes what the next word says.
@@ -38,10 +33,7 @@ impl<'a> Strip<'a> {
     {
         let at = self.place;
         let word = self.word()?;
-        match Item::from_word(word) {
-            Some(item) => Ok(item),
-            None => Err(StripFault::NoWord(at)),
-        }
+        Item::try_from(word).map_err(|_| StripFault::NoWord(at))
     }
 
     // Takes the head.
@@ -52,8 +44,7 @@ impl<'a> Strip<'a> {
     {
         let at = self.place;
         let item = self.item()?;
-        let shape = shape_of(at, item)?;
-        Ok(shape)
+        shape_of(at, item)
     }
 
     // Takes the cells word, which says that so many raw words follow.
@@ -63,8 +54,7 @@ impl<'a> Strip<'a> {
     {
         let at = self.place;
         let item = self.item()?;
-        let count = count_of(cells, at, item)?;
-        Ok(count)
+        count_of(cells, at, item)
     }
 
     // Takes a raw word, a cell of that kind.
@@ -97,11 +87,13 @@ impl<'a> Strip<'a> {
         ensures { Gives frame_due self.old self.new result }
     {
         let at = self.place;
-        let item = self.item()?;
-        let (column, row) = corner_of(at, item)?;
+        let Item::Corner { column, row } = self.item()? else {
+            return Err(StripFault::OutOfOrder(at));
+        };
         let next = self.place;
-        let second = self.item()?;
-        let (width, height) = extent_of(next, second)?;
+        let Item::Extent { width, height } = self.item()? else {
+            return Err(StripFault::OutOfOrder(next));
+        };
         Ok(Frame {
             column,
             row,
@@ -114,7 +106,7 @@ impl<'a> Strip<'a> {
     fn begins(&self) -> bool
         ensures { result ≡ begins (left self.now).words }
     {
-        match word_at(self.bytes, self.place, 0) {
+        match word_at(self.words, self.place) {
             Some(word) => word / 0x1000_0000 == 3,
             None => false,
         }
@@ -125,11 +117,11 @@ impl<'a> Strip<'a> {
     pub(crate) fn window(&mut self) -> Result<Option<Frame>, StripFault>
         ensures { Gives window_due self.old self.new result }
     {
-        if !self.begins() {
-            return Ok(None);
+        if self.begins() {
+            self.frame().map(Some)
+        } else {
+            Ok(None)
         }
-        let frame = self.frame()?;
-        Ok(Some(frame))
     }
 
     // Takes a step, or the end; which of them it was.
@@ -139,8 +131,7 @@ impl<'a> Strip<'a> {
     {
         let at = self.place;
         let item = self.item()?;
-        let more = is_step(at, item)?;
-        Ok(more)
+        is_step(at, item)
     }
 
     // Takes the steps and the end word; how many steps there are.
@@ -153,13 +144,11 @@ impl<'a> Strip<'a> {
         Ok(self.place - first - 1)
     }
 
-    // Whether nothing is left, not even bytes that are no whole word.
-    pub(crate) fn ended(&self) -> Result<(), StripFault>
-        ensures { Passes (ended (over self.now.bytes.now)) self.now self.now result }
+    // Whether nothing is left, not even one of these bytes that are no whole word.
+    pub(crate) fn ended(&self, over: &[u8]) -> Result<(), StripFault>
+        ensures { Passes (ended (length over.now)) self.now self.now result }
     {
-        let count = self.bytes.len() / 4;
-        let over = self.bytes.len() % 4;
-        if count <= self.place && over == 0 {
+        if self.words.len() <= self.place && over.is_empty() {
             Ok(())
         } else {
             Err(StripFault::OutOfOrder(self.place))
@@ -171,17 +160,20 @@ impl<'a> Strip<'a> {
 fn shape_of(at: usize, item: Item) -> Result<Shape, StripFault>
     ensures { result ≡ shape_of at item }
 {
-    match item {
-        Item::Head(number, width, height) => match CellKind::from_number(number) {
-            Some(kind) => Ok(Shape {
-                kind,
-                width,
-                height,
-            }),
-            None => Err(StripFault::NoKind(at)),
-        },
-        _ => Err(StripFault::OutOfOrder(at)),
-    }
+    let Item::Head {
+        kind,
+        width,
+        height,
+    } = item
+    else {
+        return Err(StripFault::OutOfOrder(at));
+    };
+    let kind = CellKind::try_from(kind).map_err(|_| StripFault::NoKind(at))?;
+    Ok(Shape {
+        kind,
+        width,
+        height,
+    })
 }
 
 // The count of the cells word, if it is that number.
@@ -189,33 +181,8 @@ fn count_of(cells: u32, at: usize, item: Item) -> Result<u32, StripFault>
     ensures { result ≡ count_of cells at item }
 {
     match item {
-        Item::Cells(count) => {
-            if count == cells {
-                Ok(cells)
-            } else {
-                Err(StripFault::WrongCount(at))
-            }
-        }
-        _ => Err(StripFault::OutOfOrder(at)),
-    }
-}
-
-// The column and the row of a corner.
-fn corner_of(at: usize, item: Item) -> Result<(u32, u32), StripFault>
-    ensures { result ≡ corner_of at item }
-{
-    match item {
-        Item::Corner(column, row) => Ok((column, row)),
-        _ => Err(StripFault::OutOfOrder(at)),
-    }
-}
-
-// The width and the height of an extent.
-fn extent_of(at: usize, item: Item) -> Result<(u32, u32), StripFault>
-    ensures { result ≡ extent_of at item }
-{
-    match item {
-        Item::Extent(width, height) => Ok((width, height)),
+        Item::Cells(count) if count == cells => Ok(cells),
+        Item::Cells(_) => Err(StripFault::WrongCount(at)),
         _ => Err(StripFault::OutOfOrder(at)),
     }
 }
@@ -225,7 +192,7 @@ fn is_step(at: usize, item: Item) -> Result<bool, StripFault>
     ensures { result ≡ is_step at item }
 {
     match item {
-        Item::Point(_, _) => Ok(true),
+        Item::Point { .. } => Ok(true),
         Item::Call(_) => Ok(true),
         Item::End => Ok(false),
         _ => Err(StripFault::OutOfOrder(at)),

@@ -75,7 +75,7 @@ fn the_worked_strip_is_accepted(rt: HostRuntime) -> Result<(), Fail> {
             assert_eq!(rt; job.raw(3), None);
             assert_eq!(rt; job.window(), None);
             assert_eq!(rt; job.steps(), 3);
-            assert_eq!(rt; job.step(1), Some(Step::Point(16, 15)));
+            assert_eq!(rt; job.step(1), Some(Step::Point { u: 16, v: 15 }));
             assert_eq!(rt; job.step(2), Some(Step::Call(Filter::Open)));
             assert_eq!(rt; job.step_place(2), Some(7));
             assert_eq!(rt; job.step(3), None);
@@ -113,7 +113,7 @@ fn a_window_and_a_mask_of_height_cells(rt: HostRuntime) -> Result<(), Fail> {
             );
             assert_eq!(rt; job.step(0), Some(Step::Call(Filter::Close)));
             // A field of 31 is no fault of the strip.
-            assert_eq!(rt; job.step(1), Some(Step::Point(31, 0)));
+            assert_eq!(rt; job.step(1), Some(Step::Point { u: 31, v: 0 }));
             assert_eq!(rt; job.step_place(1), Some(7));
             assert_eq!(rt; point_of(31, 0), Point { u: 16, v: -15 });
         }

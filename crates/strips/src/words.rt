@@ -1,25 +1,20 @@
-// A strip's bytes, four to a word.
-ghost use Rattle.std.specs.Prelude.{◌≡◌, ◌+◌, ◌^◌, ◌<◌, drop, IfSome};
+// The words of a strip, four bytes each.
+ghost use Rattle.std.specs.Prelude.{◌≡◌, ◌+◌, ◌<◌, ◌≤◌, drop, length, take, IfSome};
 ghost use Rattle.std.specs.List.{slice_get};
-ghost use Rattle.strips.specs.Words.{word, words};
+ghost use Rattle.strips.specs.Words.{numbers};
 
-// The word that stands so many words behind another, if there are four bytes of it.
-pub(crate) fn word_at(bytes: &[u8], start: usize, further: usize) -> Option<u32>
-    ensures answer { result ≡ slice_get (drop start (words bytes.now)) further }
-    ensures within { IfSome result (λ _. start + further < 2 ^ 63) }
+// The word with that number, if there is one.
+pub(crate) fn word_at(words: &[[u8; 4]], i: usize) -> Option<u32>
+    ensures answer { result ≡ slice_get (numbers words.now) i }
+    ensures within { IfSome result (λ _. i < length words.now) }
 {
-    let count = bytes.len() / 4;
-    if start < count && further < count - start {
-        let i = 4 * (start + further);
-        Some(word(bytes[i], bytes[i + 1], bytes[i + 2], bytes[i + 3]))
-    } else {
-        None
-    }
+    words.get(i).map(|word| u32::from_be_bytes(*word))
 }
 
-// The word of four bytes, the highest first.
-fn word(a: u8, b: u8, c: u8, d: u8) -> u32
-    ensures { result ≡ word a b c d }
+// So many words from that one on.
+pub(crate) fn part(words: &[[u8; 4]], first: usize, count: usize) -> &[[u8; 4]]
+    requires { first + count ≤ length words.now }
+    ensures { numbers result.now ≡ take count (drop first (numbers words.now)) }
 {
-    u32::from(a) * 0x100_0000 + u32::from(b) * 0x1_0000 + u32::from(c) * 0x100 + u32::from(d)
+    &words[first..first + count]
 }

@@ -4,7 +4,8 @@ use Rattle.std.specs.List.{slice_get}
 use Rattle.masks.specs.declared.point.Point.{Point}
 use Rattle.strips.specs.declared.parts.Step.{Step}
 use Rattle.strips.specs.declared.parts.Step.TheVariants as steps
-use Rattle.strips.specs.Views.{job_of, steps_start}
+use Rattle.strips.specs.Jobs.{first_step}
+use Rattle.strips.specs.Views.{job_of}
 use Rattle.jobs.specs.Acts.{acts, Closes}
 use Rattle.jobs.specs.declared.act.Act.TheVariants.{Filter}
 use Rattle.jobs.proofs.Steps.{point_leads, call_leads, end_leads, step_there, length_more}
@@ -14,7 +15,7 @@ use Rattle.jobs.proofs.act.acts_of.Goals as goal
 pub loop-i-preserved : goal.loop-i-preserved
 loop-i-preserved c =
     let ss = (job_of c.args.job.now).steps in
-    let all = acts (steps_start c.args.job.now) [] ss in
+    let all = acts (first_step (job_of c.args.job.now)) [] ss in
     elim c.match-step.branch [
       | in-Some-Point+in_ok-push-in-Some-Point w ↦
           let at : slice_get ss c.loop-i.i ≡ Some (steps.Point w.in-Some-Point.u w.in-Some-Point.v) =
@@ -40,7 +41,7 @@ loop-i-preserved c =
 pub returns : goal.returns
 returns c =
     let ss = (job_of c.args.job.now).steps in
-    let all = acts (steps_start c.args.job.now) [] ss in
+    let all = acts (first_step (job_of c.args.job.now)) [] ss in
     let closing : Closes c.loop-i.first c.loop-i.run.items c.loop-i.acts.items c.close-2.new.acts.items = subst (λ (ps : List Point). Closes c.loop-i.first ps c.loop-i.acts.items c.close-2.new.acts.items) c.as_slice-2.ensures.value c.in_ok-close.ensures in
     let long : length ss ≤ c.loop-i.i = omega (arith, c.steps-i-end.ensures.answer, c.loop-i-test.false) in
     end_leads ss c.loop-i.i c.loop-i.first c.loop-i.run.items c.loop-i.acts.items c.close-2.new.acts.items all long closing c.loop-i.invariant.leads

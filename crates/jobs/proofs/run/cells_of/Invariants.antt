@@ -1,8 +1,8 @@
--- The cells of the words before word i.
+-- The cells of the words so far.
 use Rattle.std.proofs.Common.{◌≡◌, map, take}
-use Rattle.strips.specs.Views.{job_of}
+use Rattle.strips.specs.Words.{numbers}
 use Rattle.jobs.specs.Listings.{cells_by}
 use Rattle.jobs.proofs.run.cells_of.Given as goal
 
-abbrev pub invariant-loop-i : goal.invariant-loop-i
-invariant-loop-i g l = map g.K.Kind.means l.cells.items ≡ map (cells_by g.K.Kind.lattice g.K.Kind.means g.K.WordForm.reads) (take l.i (job_of l.job).raws)
+abbrev pub invariant-loop-word : goal.invariant-loop-word
+invariant-loop-word g l = map g.K.Kind.means l.cells.items ≡ map (cells_by g.K.Kind.lattice g.K.Kind.means g.K.WordForm.reads) (numbers (take l.word-index l.word-items))

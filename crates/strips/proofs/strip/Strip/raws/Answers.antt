@@ -14,9 +14,9 @@ returns-in_err-_cell c =
 pub loop-preserved : goal.loop-preserved
 loop-preserved c = record {
   reads = raws_goes c.args.kind c.args.n c.loop.counter (left c.loop.self) (left c.cell.new.self) c.in_ok-_cell._cell (raws_due c.args.kind c.args.n (left c.args.self.now)) c.loop-test.true c.in_ok-_cell.ensures.0 c.loop.invariant.reads;
-  bytes = c.in_ok-_cell.ensures.1 ∙ c.loop.invariant.bytes;
+  words = c.in_ok-_cell.ensures.1 ∙ c.loop.invariant.words;
 }
 
 pub returns : goal.returns
 returns c =
-    (raws_done c.args.kind c.args.n c.loop.counter (left c.loop.self) (raws_due c.args.kind c.args.n (left c.args.self.now)) c.loop-test.false c.loop.invariant.reads, c.loop.invariant.bytes)
+    (raws_done c.args.kind c.args.n c.loop.counter (left c.loop.self) (raws_due c.args.kind c.args.n (left c.args.self.now)) c.loop-test.false c.loop.invariant.reads, c.loop.invariant.words)

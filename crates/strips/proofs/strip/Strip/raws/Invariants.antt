@@ -7,5 +7,5 @@ use Rattle.strips.proofs.strip.Strip.raws.Given as goal
 abbrev pub invariant-loop : goal.invariant-loop
 invariant-loop l = record {
   reads : raws_due l.kind (l.n - l.counter) (left l.self) ≡ raws_due l.kind l.n (left l.fn.self);
-  bytes : l.self.bytes.now ≡ l.fn.self.bytes.now;
+  words : l.self.words.now ≡ l.fn.self.words.now;
 }

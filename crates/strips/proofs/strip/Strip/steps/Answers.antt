@@ -32,7 +32,7 @@ loop-preserved c =
     let goes = steps_goes (l.place - s.place) l.place l.words m (added 0 (steps_due s)) step c.loop.invariant.reads in
     record {
       reads = rw (← n) goes;
-      bytes = c.in_ok-step.ensures.1 ∙ c.loop.invariant.bytes;
+      words = c.in_ok-step.ensures.1 ∙ c.loop.invariant.words;
       after = omega (arith, k.1, c.loop.invariant.after);
     }
 
@@ -57,4 +57,4 @@ returns c =
     let k = step_shorter l.place l.words false m step in
     let n : m.place - s.place - 1 ≡ l.place - s.place = omega (arith, k.1, c.loop.invariant.after) in
     let all = steps_done (l.place - s.place) l.place l.words m (added 0 (steps_due s)) step c.loop.invariant.reads in
-    (rw n (sym (added_none (steps_due s)) ∙ all), c.in_ok-step.ensures.1 ∙ c.loop.invariant.bytes)
+    (rw n (sym (added_none (steps_due s)) ∙ all), c.in_ok-step.ensures.1 ∙ c.loop.invariant.words)

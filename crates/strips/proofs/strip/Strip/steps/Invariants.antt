@@ -8,7 +8,7 @@ use Rattle.strips.proofs.strip.Strip.steps.Given as goal
 abbrev pub invariant-loop : goal.invariant-loop
 invariant-loop l = record {
   reads : added (l.self.place - l.initial.self.place) (steps_due (left l.self)) ≡ added 0 (steps_due (left l.initial.self));
-  bytes : l.self.bytes.now ≡ l.initial.self.bytes.now;
+  words : l.self.words.now ≡ l.initial.self.words.now;
   after : l.initial.self.place ≤ l.self.place;
 }
 
