@@ -1,5 +1,5 @@
 -- The topmost of stored values shows the topmost of raw words.
-use Rattle.std.proofs.Common.{◌≡◌, ℕ, ◌+◌, Bool, true, false, cond, List, map, length, Option, Some, None, Ok, Err, Result, IfOk, sym, refl, ap, ◌∙◌}
+use Rattle.std.proofs.Common.{◌≡◌, ℕ, ◌+◌, Bool, true, false, cond, List, map, length, Option, Some, None, sym, refl, ap, ◌∙◌}
 use mathlib.Core.Path.{fun_ext}
 use Rattle.std.specs.List.{slice_get}
 use Rattle.std.specs.Option.{option_map}
@@ -56,7 +56,3 @@ pub lists_pile : {K C : Type 0} (k : Lattice C) (f : K → C) (reads : ℕ → O
     map f cs ≡ map (cells_by k f reads) j.raws → s ≡ topmost j.kind j.width j.window cs → Lists k f g j.kind xs s ls → ListsJob k f reads g xs j ls
 lists_pile {C = C} k f reads g xs j s cs ls same whole here =
     λ named names. here named names ∙ ap (λ (t : Sheet C). performed k named j.kind xs t) (ap (shown f) whole ∙ topmost_same f (cells_by k f reads) j.kind j.width j.window cs j.raws same)
-
-pub if_ok : {A E : Type 0} (r : Result A E) (P Q : A → Type 0) → ((v : A) → P v → Q v) → IfOk r P → IfOk r Q
-if_ok (Ok v) P Q f h = f v h
-if_ok (Err e) P Q f h = tt

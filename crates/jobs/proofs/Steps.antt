@@ -1,8 +1,8 @@
 -- Steps, one after the other.
 use Rattle.std.proofs.Common.{◌≡◌, ℕ, ◌+◌, ◌<◌, ◌≤◌, List, [], ◌∷◌, ◌++◌, length, drop, Some, None, sym, refl, ap, ◌∙◌, subst, subst₂, append_assoc}
 use Rattle.std.specs.List.{slice_get}
-use Rattle.std.proofs.lemmas.List.{drop_more, drop_all, append-nil, length_push}
-use Rattle.std.proofs.lemmas.Option.{slice_get_within, get_or_from_slice_get, slice_get-get_or}
+use Rattle.std.proofs.lemmas.List.{drop_all, append-nil, length_push}
+use Rattle.std.proofs.lemmas.Option.{slice_get-get_or}
 use Rattle.masks.specs.declared.point.Point.{Point}
 use Rattle.morphology.specs.declared.call.Filter as filters
 use Rattle.strips.specs.Jobs.{point_of}
@@ -11,10 +11,8 @@ use Rattle.strips.specs.declared.parts.Step.TheVariants as steps
 use Rattle.jobs.specs.Acts.{acts, closed, Alike, Closes}
 use Rattle.jobs.specs.declared.act.Act.{Act}
 use Rattle.jobs.specs.declared.act.Act.TheVariants.{Filter}
+use Rattle.strips.proofs.Fronts.{drop_first}
 use Rattle.jobs.proofs.Acts.{closes_alike}
-
-step_next : (ss : List Step) (i : ℕ) (s : Step) → slice_get ss i ≡ Some s → drop i ss ≡ s ∷ drop (i + 1) ss
-step_next ss i s e = drop_more ss i s (slice_get_within ss i s e) ∙ ap (λ (t : Step). t ∷ drop (i + 1) ss) (get_or_from_slice_get ss i s s e)
 
 -- what is left, with more before it, is all
 abbrev pub Leads : List Act → List Act → List Act → Type 0
@@ -25,7 +23,7 @@ pub point_leads : (ss : List Step) (i u v w w' : ℕ) (ps qs : List Point) (p : 
     Leads done' (acts w' qs (drop (i + 1) ss)) all
 point_leads ss i u v w w' ps qs p done done' all s e q f d leads =
     let same : acts w ps (drop i ss) ≡ acts w' qs (drop (i + 1) ss) =
-    ap (acts w ps) (step_next ss i (steps.Point u v) s)
+    ap (acts w ps) (drop_first i ss (steps.Point u v) s)
     ∙ ap (λ (r : List Point). acts w r (drop (i + 1) ss)) (sym (q ∙ ap (λ (o : Point). ps ++ o ∷ []) e))
     ∙ ap (λ (x : ℕ). acts x qs (drop (i + 1) ss)) (sym f) in
     subst (λ (xs : List Act). Leads xs (acts w' qs (drop (i + 1) ss)) all) (sym d) (subst (λ (rest : List Act). Leads done rest all) same leads)
@@ -35,7 +33,7 @@ pub call_leads : (ss : List Step) (i w w' : ℕ) (q : filters.Filter) (ps qs : L
     Leads new (acts w' qs (drop (i + 1) ss)) all
 call_leads ss i w w' q ps qs done closing new all s c n e r leads =
     let rest = acts (w + length ps + 1) [] (drop (i + 1) ss) in
-    let here : Leads done (closed w ps (Filter q ∷ rest)) all = subst (λ (r : List Act). Leads done r all) (ap (acts w ps) (step_next ss i (steps.Call q) s)) leads in
+    let here : Leads done (closed w ps (Filter q ∷ rest)) all = subst (λ (r : List Act). Leads done r all) (ap (acts w ps) (drop_first i ss (steps.Call q) s)) leads in
     λ more m.
     let m' : Alike more rest = subst₂ (λ (x : ℕ) (os : List Point). Alike more (acts x os (drop (i + 1) ss))) e r m in
     subst (λ (xs : List Act). Alike (xs ++ more) all) (sym n)

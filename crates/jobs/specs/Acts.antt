@@ -19,11 +19,11 @@ use Rattle.strips.specs.declared.parts.Step.TheVariants as steps
 use Rattle.jobs.specs.Masks.{mask_of}
 use Rattle.jobs.specs.declared.act.Act.{Act}
 use Rattle.jobs.specs.declared.act.Act.TheVariants.{Run, Filter}
-use Rattle.jobs.specs.declared.fault.RunFault.{RunFault}
+use Rattle.jobs.specs.declared.fault.PointsFault.{PointsFault}
 use Rattle.jobs.specs.declared.fault.JobFault.TheVariants as faults
 
 -- each point is one word, so the point at place i of the run is word w + i
-abbrev pub blamed : ℕ → MaskFault → RunFault
+abbrev pub blamed : ℕ → MaskFault → PointsFault
 blamed w NoPoints = record { fault = NoPoints; word = w }
 blamed w (Beyond i) = record { fault = Beyond i; word = w + i }
 

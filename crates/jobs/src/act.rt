@@ -4,7 +4,7 @@ ghost use Rattle.strips.specs.Views.{job_of};
 ghost use Rattle.jobs.specs.Acts.{blamed, act_of, job_acts, AlikeAct, Alike, Closes};
 ghost use Rattle.jobs.specs.declared.act.Act.TheVariants.{Run};
 
-use crate::fault::{JobFault, RunFault};
+use crate::fault::{JobFault, PointsFault};
 use masks::fault::MaskFault;
 use masks::mask::Mask;
 use masks::point::Point;
@@ -70,7 +70,7 @@ fn mask_of(first: usize, run: &[Point]) -> Result<Mask, JobFault>
 }
 
 // The refusal of a mask, with the word of the point that is to blame.
-fn blamed(first: usize, fault: MaskFault) -> RunFault
+fn blamed(first: usize, fault: MaskFault) -> PointsFault
     requires { (i : ℕ) → fault ≡ MaskFault.Beyond i → first + i < 2 ^ 63 }
     ensures { result ≡ blamed first fault }
 {
@@ -78,5 +78,5 @@ fn blamed(first: usize, fault: MaskFault) -> RunFault
         MaskFault::NoPoints => first,
         MaskFault::Beyond(i) => first + i,
     };
-    RunFault { fault, word }
+    PointsFault { fault, word }
 }

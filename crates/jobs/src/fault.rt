@@ -30,7 +30,7 @@ impl fmt::Display for Layer {
 
 // A refusal to make a mask of a run of points, with the word of the point that is to blame.
 #[derive(Clone, Copy, PartialEq, Eq, Debug)]
-pub struct RunFault {
+pub struct PointsFault {
     pub fault: MaskFault,
     pub word: usize,
 }
@@ -41,7 +41,7 @@ pub enum JobFault {
     // The bytes are the strip of no job.
     Strip(StripFault),
     // No mask can be made of a run of points.
-    Mask(RunFault),
+    Mask(PointsFault),
     // A filter does not go ahead.
     Worksheet(Refusal),
 }
@@ -89,10 +89,10 @@ impl From<StripFault> for JobFault {
     }
 }
 
-impl From<RunFault> for JobFault {
+impl From<PointsFault> for JobFault {
     ghost from_gives = { λ f r. r ≡ Mask f };
 
-    fn from(fault: RunFault) -> JobFault {
+    fn from(fault: PointsFault) -> JobFault {
         JobFault::Mask(fault)
     }
 }

@@ -1,5 +1,5 @@
 // Strips in words, and their listings as text.
-use crate::fault::{JobFault, Layer, RunFault};
+use crate::fault::{JobFault, Layer, PointsFault};
 use crate::line::Line;
 use crate::run::run;
 use masks::fault::MaskFault;
@@ -185,7 +185,7 @@ fn a_fault_has_number_layer_and_word(rt: HostRuntime) {
     assert_eq!(rt; strip.number(), 6);
     assert_eq!(rt; strip.layer(), Layer::Strip);
     assert_eq!(rt; strip.word(), Some(5));
-    let mask = JobFault::Mask(RunFault {
+    let mask = JobFault::Mask(PointsFault {
         fault: MaskFault::Beyond(1),
         word: 6,
     });

@@ -1,17 +1,16 @@
 -- What is left of a strip, and its first word.
-use Rattle.std.proofs.Common.{◌≡◌, ℕ, zero, suc, ◌+◌, List, [], ◌∷◌, drop, Option, Some, None, refl, sym, ap, ◌∙◌, arith}
+use Rattle.std.proofs.Common.{◌≡◌, ℕ, zero, suc, ◌+◌, List, [], ◌∷◌, drop, Option, Some, None, refl, sym, ap, ◌∙◌}
 use Rattle.std.specs.Prelude.{ok_or}
 use Rattle.std.specs.List.{slice_get}
+use Rattle.std.proofs.lemmas.List.{drop_more}
+use Rattle.std.proofs.lemmas.Option.{slice_get_within, get_or_from_slice_get}
 use Rattle.strips.specs.Reading.{from, ◌>>=◌, word_due}
 use Rattle.strips.specs.declared.fault.StripFault.TheVariants.{CutShort}
 use Rattle.strips.proofs.Loops.{beside}
 
 -- from an element on, a list is that element and the rest
-pub drop_first : (i : ℕ) (ws : List ℕ) (w : ℕ) → slice_get ws i ≡ Some w → drop i ws ≡ w ∷ drop (i + 1) ws
-drop_first zero [] w e = absurd cc
-drop_first zero (x ∷ ws) w e = ap (λ (v : ℕ). v ∷ ws) cc
-drop_first (suc i) [] w e = absurd cc
-drop_first (suc i) (x ∷ ws) w e = drop_first i ws w e ∙ ap (λ (k : ℕ). w ∷ drop k (x ∷ ws)) (let n : suc (i + 1) ≡ suc i + 1 = omega arith in n)
+pub drop_first : {A : Type 0} (i : ℕ) (xs : List A) (x : A) → slice_get xs i ≡ Some x → drop i xs ≡ x ∷ drop (i + 1) xs
+drop_first {A} i xs x e = drop_more xs i x (slice_get_within xs i x e) ∙ ap (λ (y : A). y ∷ drop (i + 1) xs) (get_or_from_slice_get xs i x x e)
 
 pub drop_none : (i : ℕ) (ws : List ℕ) → slice_get ws i ≡ None → drop i ws ≡ []
 drop_none zero [] e = refl

@@ -3,6 +3,7 @@ use Rattle.std.proofs.Common.{◌≡◌, ℕ, ◌+◌, ◌*◌, ◌/◌, ◌%◌
 use Rattle.std.specs.Prelude.{◌==◌, nat_lt}
 use Rattle.std.specs.Option.{option_map}
 use Rattle.std.proofs.lemmas.Bool.{eqb-true, ltb-true, lt-ltb}
+use Rattle.std.proofs.lemmas.Option.{cond_some, same_Some}
 use Rattle.morphology.specs.declared.call.Filter.{Filter}
 use Rattle.morphology.specs.declared.call.Filter.TheVariants.{Erode, Dilate, Open, Close}
 use Rattle.strips.specs.Items.{filter_number, filter_of, head_item, pair, corner_item, extent_item, point_item, end_item, item_by, item_of, item_word, Fits}
@@ -26,14 +27,6 @@ pub chosen : {A : Type 0} (b : Bool) (x y z : A) → cond b x y ≡ z → ((b �
 chosen true x y z e = inl (refl, e)
 chosen false x y z e = inr (refl, e)
 
-pub some_is : {A : Type 0} (x y : A) → Some x ≡ Some y → x ≡ y
-some_is x y e = cc
-
--- a test that let a value through
-passed : {A : Type 0} (b : Bool) (x y : A) → cond b (Some x) None ≡ Some y → (b ≡ true) × (x ≡ y)
-passed true x y e = (refl, cc)
-passed false x y e = absurd cc
-
 -- a test that let two numbers through, of which f makes an item
 paired : (b : Bool) (f : ℕ → ℕ → Item) (p : ℕ × ℕ) (y : Item) → option_map (λ q. f q.0 q.1) (cond b (Some p) None) ≡ Some y → (b ≡ true) × (f p.0 p.1 ≡ y)
 paired true f p y e = (refl, cc)
@@ -51,30 +44,30 @@ says_extent b x e =
 
 says_point : (b : ℕ) (x : Item) → point_item b ≡ Some x → Says 5 b x
 says_point b x e =
-    let p = passed (nat_lt b (2 ^ 10)) (Point (b / 2 ^ 5) (b % 2 ^ 5)) x e in
+    let p = cond_some (nat_lt b (2 ^ 10)) (Point (b / 2 ^ 5) (b % 2 ^ 5)) x e in
     subst (Says 5 b) p.1 (refl, ltb-true b (2 ^ 10) p.0, refl, refl)
 
 says_end : (b : ℕ) (x : Item) → end_item b ≡ Some x → Says 7 b x
 says_end b x e =
-    let p = passed (b == 0) End x e in
+    let p = cond_some (b == 0) End x e in
     subst (Says 7 b) p.1 (refl, eqb-true b 0 p.0)
 
 -- the filter with a number has that number
 number_of_filter : (b : ℕ) (q : Filter) → filter_of b ≡ Some q → filter_number q ≡ b
 number_of_filter b q e =
     elim (chosen (b == 1) (Some Erode) (cond (b == 2) (Some Dilate) (cond (b == 3) (Some Open) (cond (b == 4) (Some Close) None))) (Some q) e) [
-      | inl p ↦ ap filter_number (sym (some_is Erode q p.1)) ∙ sym (eqb-true b 1 p.0)
+      | inl p ↦ ap filter_number (sym (same_Some Erode q p.1)) ∙ sym (eqb-true b 1 p.0)
       | inr p ↦ elim (chosen (b == 2) (Some Dilate) (cond (b == 3) (Some Open) (cond (b == 4) (Some Close) None)) (Some q) p.1) [
-        | inl p ↦ ap filter_number (sym (some_is Dilate q p.1)) ∙ sym (eqb-true b 2 p.0)
+        | inl p ↦ ap filter_number (sym (same_Some Dilate q p.1)) ∙ sym (eqb-true b 2 p.0)
         | inr p ↦ elim (chosen (b == 3) (Some Open) (cond (b == 4) (Some Close) None) (Some q) p.1) [
-          | inl p ↦ ap filter_number (sym (some_is Open q p.1)) ∙ sym (eqb-true b 3 p.0)
-          | inr p ↦ (let g = passed (b == 4) Close q p.1 in ap filter_number (sym g.1) ∙ sym (eqb-true b 4 g.0))
+          | inl p ↦ ap filter_number (sym (same_Some Open q p.1)) ∙ sym (eqb-true b 3 p.0)
+          | inr p ↦ (let g = cond_some (b == 4) Close q p.1 in ap filter_number (sym g.1) ∙ sym (eqb-true b 4 g.0))
         ]
       ]
     ]
 
 says_mapped : (b : ℕ) (o : Option Filter) (x : Item) → filter_of b ≡ o → option_map Call o ≡ Some x → Says 6 b x
-says_mapped b (Some q) x h e = subst (Says 6 b) (some_is (Call q) x e) (refl, number_of_filter b q h)
+says_mapped b (Some q) x h e = subst (Says 6 b) (same_Some (Call q) x e) (refl, number_of_filter b q h)
 says_mapped b None x h e = absurd cc
 
 says_call : (b : ℕ) (x : Item) → option_map Call (filter_of b) ≡ Some x → Says 6 b x
@@ -125,9 +118,9 @@ says_3 k b x e =
 says : (k b : ℕ) (x : Item) → item_by k b ≡ Some x → Says k b x
 says k b x e =
     elim (chosen (k == 1) (head_item b) (cond (k == 2) (Some (Cells b)) (by_3 k b)) (Some x) e) [
-      | inl p ↦ at k 1 b x p.0 (subst (Says 1 b) (some_is (Head (b / 2 ^ 24) (b / 2 ^ 12 % 2 ^ 12) (b % 2 ^ 12)) x p.1) (refl, refl, refl, refl))
+      | inl p ↦ at k 1 b x p.0 (subst (Says 1 b) (same_Some (Head (b / 2 ^ 24) (b / 2 ^ 12 % 2 ^ 12) (b % 2 ^ 12)) x p.1) (refl, refl, refl, refl))
       | inr p ↦ elim (chosen (k == 2) (Some (Cells b)) (by_3 k b) (Some x) p.1) [
-        | inl p ↦ at k 2 b x p.0 (subst (Says 2 b) (some_is (Cells b) x p.1) (refl, refl))
+        | inl p ↦ at k 2 b x p.0 (subst (Says 2 b) (same_Some (Cells b) x p.1) (refl, refl))
         | inr p ↦ says_3 k b x p.1
       ]
     ]

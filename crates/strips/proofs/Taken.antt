@@ -3,6 +3,7 @@ use Rattle.std.proofs.Common.{◌≡◌, ℕ, zero, suc, ◌+◌, ◌^◌, ◌<�
 use Rattle.std.specs.Prelude.{◌==◌, IfSome}
 use Rattle.std.specs.List.{AllByRecursion}
 use Rattle.std.proofs.lemmas.Bool.{eqb-true}
+use Rattle.std.proofs.lemmas.Option.{same_Some}
 use Rattle.strips.specs.Kinds.{kind_number, kind_of, is_cell}
 use Rattle.strips.specs.Items.{item_of, item_word, Fits}
 use Rattle.strips.specs.Jobs.{step_item, corner, extent, window_words, step_words, step_of, IsRaw}
@@ -15,7 +16,7 @@ use Rattle.strips.specs.declared.parts.Shape.{Shape}
 use Rattle.strips.specs.declared.parts.Frame.{Frame}
 use Rattle.strips.specs.declared.fault.StripFault.{StripFault}
 use Rattle.strips.specs.declared.fault.StripFault.TheVariants.{NoCell, WrongCount}
-use Rattle.strips.proofs.Items.{chosen, some_is, item_takes}
+use Rattle.strips.proofs.Items.{chosen, item_takes}
 use Rattle.strips.proofs.Shapes.{bind_ok, ok_is, said_is, item_first, shape_is}
 use Rattle.strips.proofs.Loops.{beside, step_at, steps_first, steps_none}
 
@@ -57,13 +58,13 @@ part_takes {A} f i ws y m e =
 number_of_kind : (n : ℕ) (k : CellKind) → kind_of n ≡ Some k → kind_number k ≡ n
 number_of_kind n k e =
     elim (chosen (n == 1) (Some Gray) (cond (n == 2) (Some Height) (cond (n == 3) (Some Flags) (cond (n == 4) (Some Return) None))) (Some k) e) [
-      | inl p ↦ ap kind_number (sym (some_is Gray k p.1)) ∙ sym (eqb-true n 1 p.0)
+      | inl p ↦ ap kind_number (sym (same_Some Gray k p.1)) ∙ sym (eqb-true n 1 p.0)
       | inr p ↦ elim (chosen (n == 2) (Some Height) (cond (n == 3) (Some Flags) (cond (n == 4) (Some Return) None)) (Some k) p.1) [
-        | inl p ↦ ap kind_number (sym (some_is Height k p.1)) ∙ sym (eqb-true n 2 p.0)
+        | inl p ↦ ap kind_number (sym (same_Some Height k p.1)) ∙ sym (eqb-true n 2 p.0)
         | inr p ↦ elim (chosen (n == 3) (Some Flags) (cond (n == 4) (Some Return) None) (Some k) p.1) [
-          | inl p ↦ ap kind_number (sym (some_is Flags k p.1)) ∙ sym (eqb-true n 3 p.0)
+          | inl p ↦ ap kind_number (sym (same_Some Flags k p.1)) ∙ sym (eqb-true n 3 p.0)
           | inr p ↦ elim (chosen (n == 4) (Some Return) None (Some k) p.1) [
-            | inl p ↦ ap kind_number (sym (some_is Return k p.1)) ∙ sym (eqb-true n 4 p.0)
+            | inl p ↦ ap kind_number (sym (same_Some Return k p.1)) ∙ sym (eqb-true n 4 p.0)
             | inr p ↦ absurd (let q = p.1 in cc)
           ]
         ]

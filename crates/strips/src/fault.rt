@@ -4,7 +4,8 @@ ghost use Rattle.strips.specs.Faults.{number, told_word};
 
 use std::fmt;
 
-// A refusal of a strip, with the number of the word where it is found.
+// A refusal of a strip, with the number of the word where it is found. Each case has its word, since a ground with a word
+// beside it could tell a strip that is too long at a word of its own.
 #[derive(Clone, Copy, PartialEq, Eq, Debug)]
 pub enum StripFault {
     // The strip has over 65,536 bytes.
@@ -60,17 +61,14 @@ impl fmt::Display for StripFault {
         let number = self.number();
         let word = self.word();
         write!(f, "refused {number}: word {word}: ")?;
-        match self {
-            StripFault::TooLong => write!(f, "a strip has at most 65536 bytes"),
-            StripFault::CutShort(_) => write!(
-                f,
-                "a word is due, and fewer than four bytes stand there"
-            ),
-            StripFault::NoWord(_) => write!(f, "this is none of the words"),
-            StripFault::OutOfOrder(_) => write!(f, "this word is not due here"),
-            StripFault::NoKind(_) => write!(f, "there is no such kind of cell"),
-            StripFault::WrongCount(_) => write!(f, "the cells are not width times height"),
-            StripFault::NoCell(_) => write!(f, "the word is no cell of the head's kind"),
-        }
+        f.write_str(match self {
+            StripFault::TooLong => "a strip has at most 65536 bytes",
+            StripFault::CutShort(_) => "a word is due, and fewer than four bytes stand there",
+            StripFault::NoWord(_) => "this is none of the words",
+            StripFault::OutOfOrder(_) => "this word is not due here",
+            StripFault::NoKind(_) => "there is no such kind of cell",
+            StripFault::WrongCount(_) => "the cells are not width times height",
+            StripFault::NoCell(_) => "the word is no cell of the head's kind",
+        })
     }
 }

@@ -3,12 +3,12 @@ use Rattle.std.proofs.Common.{◌≡◌, Result, Ok, Err, ap, sym}
 use Rattle.std.specs.Prelude.{MatchResult}
 use Rattle.masks.specs.declared.mask.Mask.{Mask}
 use Rattle.masks.specs.declared.fault.MaskFault.{MaskFault}
-use Rattle.jobs.specs.declared.fault.RunFault.{RunFault}
+use Rattle.jobs.specs.declared.fault.PointsFault.{PointsFault}
 use Rattle.jobs.proofs.Acts.{laid_alike}
 use Rattle.jobs.proofs.act.mask_of.Goals as goal
 
 -- what is a mask when the refusals are told otherwise was one before
-was_made : (r : Result Mask MaskFault) (m : Mask) → MatchResult r (λ n. ◌≡◌ {A = Result Mask RunFault} (Ok m) (Ok n)) (λ f. ⊥) → r ≡ Ok m
+was_made : (r : Result Mask MaskFault) (m : Mask) → MatchResult r (λ n. ◌≡◌ {A = Result Mask PointsFault} (Ok m) (Ok n)) (λ f. ⊥) → r ≡ Ok m
 was_made (Ok n) m h =
     let same : m ≡ n = cc in
     let made : Mask → Result Mask MaskFault = λ x. Ok x in

@@ -1,6 +1,6 @@
 -- Eight digits are the digits of the word, with zeros before them.
-use Rattle.std.proofs.Common.{ℕ, ◌≡◌, [], true, false, ◌-◌, length, ap, sym, arith}
-use Rattle.std.specs.Fmt.{padded_integral, char_count, format_spec, digits}
+use Rattle.std.proofs.Common.{ℕ, ◌≡◌, [], true, false, ◌-◌, length, Some, ap, sym, arith}
+use Rattle.std.specs.Fmt.{padded_integral, char_count, format_spec, digits, digits_output}
 use Rattle.std.proofs.lemmas.List.{append-nil}
 use Rattle.std.proofs.Output.{has_written_of_eq}
 use Rattle.strips.specs.declared.kind.CellKind.{CellKind}
@@ -15,6 +15,7 @@ unfolding padded_integral char_count
 zeros_before w = rw (nothing_off (length (digits 16 true w)), append-nil (digits 16 true w))
 
 pub returns-in-Return : goal.returns-in-Return
-returns-in-Return g c plain ok = has_written_of_eq _ _ _ _ _
-    (ap (λ (k : CellKind). cell_text k c.args.word) (sym c.in-Return.is))
-    ((rw (c.laid_out.ensures, c.in_radix.ensures, zeros_before c.args.word) at c.write-in-Return.ensures.writes) plain ok)
+returns-in-Return g c plain ok =
+    let w = c.args.word in
+    let capitals : digits_output c.in_radix.result ≡ Some (digits 16 true w) = c.in_radix.ensures in
+    has_written_of_eq _ _ _ _ _ (ap (λ (k : CellKind). cell_text k w) (sym c.in-Return.is)) ((rw (c.laid_out.ensures, capitals, zeros_before w) at c.write-in-Return.ensures.writes) plain ok)
