@@ -1,10 +1,10 @@
 -- A threshold is a lattice map: the smaller of two grays is below it where either is, the larger where both are.
-use Rattle.std.proofs.Common.{◌≡◌, ℕ, ◌≤◌, Bool, true, false, cond, ◌&&◌, ◌||◌, ltb, ℤ, pos, sym, ap, ◌∙◌, ap₂, arith}
+use Rattle.std.proofs.Common.{◌≡◌, ℕ, ◌≤◌, Bool, true, false, cond, ◌&&◌, ◌||◌, ℤ, pos, sym, ap, ◌∙◌, ap₂, arith}
 use lib.Signed.{lt_z}
 use Rattle.std.specs.Int.{int_min, int_max}
-use Rattle.std.proofs.lemmas.Int.{ints, clamps}
+use Rattle.std.proofs.lemmas.Int.{ints}
 use Rattle.cells.specs.Lattice.{Lattice, LatticeMap}
-use Rattle.cells.specs.Kinds.{GrayCell, grays, gray_cell, marks}
+use Rattle.cells.specs.Kinds.{GrayCell, grays, marks}
 use Rattle.cells.specs.Threshold.{thresholded}
 use Rattle.cells.proofs.Bytes.{no_marks, all_marks}
 
@@ -38,10 +38,6 @@ module _ {C : Type 0} (k : Lattice C) where
   ends_join : (a b : Bool) → ends (a && b) ≡ k.join (ends a) (ends b)
   ends_join true b = sym (least_join (ends b))
   ends_join false b = sym (greatest_join (ends b))
-
--- a stored gray is below the level where its cell is
-pub below_stored : (n t : ℕ) → n ≤ 255 → lt_z (gray_cell n).number (pos t) ≡ ltb n t
-below_stored n t h = let e : (gray_cell n).number ≡ pos n = omega (arith, ints, clamps) in ap (λ (z : ℤ). lt_z z (pos t)) e
 
 thresholded_ends : (t : ℕ) (c : GrayCell) → thresholded t c ≡ ends marks (lt_z c.number (pos t))
 thresholded_ends t c = ap₂ (λ x y. cond (lt_z c.number (pos t)) x y) no_marks all_marks

@@ -1,7 +1,6 @@
 -- The farthest offset of a list, by a pick that is associative, commutative and idempotent.
 use Rattle.std.proofs.Common.{◌≡◌, List, [], ◌∷◌, ℤ, pos, fold, sym, refl, ap, ◌∙◌, inl, inr, arith}
 use Rattle.std.specs.Int.{int_min, int_max}
-use Rattle.std.specs.Ordering.{int_cmp, ord_min, ord_max}
 use Rattle.std.proofs.lemmas.Int.{ints, clamps}
 use Rattle.masks.specs.Points.{Among}
 use Rattle.masks.specs.Cost.{farthest}
@@ -65,10 +64,3 @@ pub southmost_same : {X Y : Type 0} (v : X → ℤ) (w : Y → ℤ) (xs : List X
     ((x : X) → Among xs x → (y : Y) × Among ys y × (v x ≡ w y)) → ((y : Y) → Among ys y → (x : X) × Among xs x × (w y ≡ v x)) →
     farthest int_max v xs ≡ farthest int_max w ys
 southmost_same = farthest_same int_max greatest_picks
-
--- the library's choice of the less and of the greater of two numbers
-pub least_of : (x y : ℤ) → ord_min int_cmp x y ≡ int_min x y
-least_of x y = grind (arith, ints)
-
-pub greatest_of : (x y : ℤ) → ord_max int_cmp x y ≡ int_max x y
-greatest_of x y = grind (arith, ints)

@@ -1,8 +1,8 @@
 -- The farthest chords lie where the farthest points do.
-use Rattle.std.proofs.Common.{◌≡◌, ◌+◌, ℤ, pos, ◌-ℤ◌, neg_ℤ, nat_abs, ◌≤ℤ◌, sym, ap, ◌∙◌, subst, ap₂, arith, w32, SFits, rules}
+use Rattle.std.proofs.Common.{◌≡◌, ◌+◌, ℤ, pos, ◌-ℤ◌, neg_ℤ, nat_abs, ◌≤ℤ◌, sym, ap, ◌∙◌, subst, ap₂, w32, SFits, rules}
 use Rattle.std.specs.Int.{int_min, int_max}
 use Rattle.std.specs.List.{AllByRecursion}
-use Rattle.std.proofs.lemmas.Int.{ints, to_z-of_z}
+use Rattle.std.proofs.lemmas.Int.{to_z-of_z}
 use Rattle.masks.specs.Cost.{farthest, northmost, southmost, spanned}
 use Rattle.masks.specs.Rows.{points}
 use Rattle.masks.specs.declared.chord.Chord.{Chord}
@@ -15,15 +15,9 @@ northmost-requires c = subst (AllByRecursion (λ ch. neg_ℤ (pos 15) ≤ℤ ch.
 pub southmost-requires : goal.southmost-requires
 southmost-requires c = subst (AllByRecursion (λ ch. ch.v ≤ℤ pos 15)) (sym (c.as_slice-2.ensures.items ∙ c.of-chords.ensures.list)) (chords_south c.args.mask.now.rows)
 
-pub span-requires : goal.span-requires
-span-requires c =
-    let n = c.northmost.ensures.within in
-    let s = c.southmost.ensures.within in
-    ((omega (arith, ints), omega (arith, ints)), (omega (arith, ints), omega (arith, ints)))
-
-pub returns : goal.returns
+pub returns-clause-answer : goal.returns-clause-answer
 unfolding spanned
-returns c =
+returns-clause-answer c =
     let rows = c.args.mask.now.rows in
     let fn : SFits w32 c.northmost.result = search rules in
     let fs : SFits w32 c.southmost.result = search rules in
@@ -31,9 +25,5 @@ returns c =
     c.northmost.ensures.answer ∙ ap (farthest {X = Chord} int_min (λ ch. ch.v)) (c.as_slice.ensures.items ∙ c.of-chords.ensures.list) ∙ northmost_chord rows in
     let s : c.southmost.result ≡ southmost (points rows 31) =
     c.southmost.ensures.answer ∙ ap (farthest {X = Chord} int_max (λ ch. ch.v)) (c.as_slice-2.ensures.items ∙ c.of-chords.ensures.list) ∙ southmost_chord rows in
-    record {
-      few = c.span.ensures.few;
-      answer =
-          c.span.ensures.answer
-          ∙ ap₂ (λ (x y : ℤ). nat_abs (x -ℤ y) + 1) (to_z-of_z w32 c.southmost.result fs ∙ s) (to_z-of_z w32 c.northmost.result fn ∙ n);
-    }
+    c.span.ensures.answer
+    ∙ ap₂ (λ (x y : ℤ). nat_abs (x -ℤ y) + 1) (to_z-of_z w32 c.southmost.result fs ∙ s) (to_z-of_z w32 c.northmost.result fn ∙ n)

@@ -1,9 +1,8 @@
--- The level is the number itself.
-use Rattle.std.proofs.Common.{pos, arith}
+-- Grays are ordered by their numbers.
+use Rattle.std.proofs.Common.{pos}
 use Rattle.cells.specs.Kinds.{gray_bounds}
-use Rattle.std.proofs.lemmas.Int.{ints, clamps}
 use Rattle.cells.proofs.Chains.{ordered}
 use Rattle.cells.proofs.gray.GrayMeasured.level.Goals as goal
 
-pub returns : goal.returns
-returns c = record { answer = omega (arith, ints, clamps); ordered = ordered gray_bounds (λ g. pos g.0) }
+pub returns-clause-ordered : goal.returns-clause-ordered
+returns-clause-ordered c = ordered gray_bounds (λ g. pos g.0)

@@ -1,9 +1,7 @@
--- The level is the number itself.
-use Rattle.std.proofs.Common.{arith}
+-- Heights are ordered by their numbers.
 use Rattle.cells.specs.Kinds.{height_bounds}
-use Rattle.std.proofs.lemmas.Int.{ints, clamps}
 use Rattle.cells.proofs.Chains.{ordered}
 use Rattle.cells.proofs.height.HeightMeasured.level.Goals as goal
 
-pub returns : goal.returns
-returns c = record { answer = omega (arith, ints, clamps); ordered = ordered height_bounds (λ h. h.0) }
+pub returns-clause-ordered : goal.returns-clause-ordered
+returns-clause-ordered c = ordered height_bounds (λ h. h.0)

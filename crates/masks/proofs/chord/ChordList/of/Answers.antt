@@ -1,7 +1,7 @@
 -- A row adds its chords, at most 16.
-use Rattle.std.proofs.Common.{◌≡◌, ℕ, List, ◌++◌, map, length, sym, ap, ◌∙◌, subst, arith}
+use Rattle.std.proofs.Common.{List, ◌++◌, map, length, sym, ap, ◌∙◌, arith}
 use Rattle.std.proofs.lemmas.List.{length-append, length-map}
-use Rattle.masks.specs.Chords.{starts, chord_at, chords}
+use Rattle.masks.specs.Chords.{starts, chord_at}
 use Rattle.masks.specs.declared.chord.Chord.{Chord}
 use Rattle.masks.proofs.Runs.{chords_none, chords_more, starts_few, all_runs}
 use Rattle.masks.proofs.chord.ChordList.of.Goals as goal
@@ -23,8 +23,5 @@ loop-r-preserved c =
       c.add_row.ensures ∙ ap (λ (l : List Chord). l ++ behind) c.loop-r.invariant.1 ∙ sym (chords_more rows r),
     )
 
-pub returns : goal.returns
-returns c =
-    let rows = c.args.mask.now.rows in
-    let e : c.loop-r.r ≡ 31 = omega arith in
-    record { list = subst (λ (n : ℕ). c.loop-r.list.items ≡ chords rows n) e c.loop-r.invariant.1; runs = all_runs rows }
+pub returns-clause-runs : goal.returns-clause-runs
+returns-clause-runs c = all_runs c.args.mask.now.rows
