@@ -1,5 +1,5 @@
 -- The rule of the length list, from 31 down.
-use Rattle.std.proofs.Common.{◌≡◌, ℕ, zero, suc, ◌+◌, ◌-◌, ◌/◌, ◌<◌, ◌≤◌, Bool, true, false, cond, not, ◌&&◌, ◌||◌, leb, ◌≢◌, List, [], ◌∷◌, ◌++◌, reverse, length, get_or, take, set, replicate, fold, filter, sym, refl, ap, ◌∙◌, subst, inl, inr, add-one, arith}
+use Rattle.std.proofs.Common.{◌≡◌, ℕ, zero, suc, ◌+◌, ◌-◌, ◌/◌, ◌<◌, ◌≤◌, Bool, true, false, cond, not, ◌&&◌, ◌||◌, leb, ◌≢◌, List, [], ◌∷◌, ◌++◌, reverse, length, get_or, take, set, replicate, fold, filter, sym, refl, ap, ◌∙◌, subst, inl, inr, arith}
 use Rattle.std.specs.List.{range_with_len, AllByRecursion}
 use Rattle.std.proofs.Math.Bool.{or-true}
 use Rattle.std.proofs.lemmas.List.{length-set, get_or-set_same, get_or-set_other, reverse-append}
@@ -27,9 +27,6 @@ halved_down_more s a h = ap (fold halved_at s) (down_more a h) ∙ fold_push hal
 pub halved_down_all : (s : List Bool) → halved_down s 2 ≡ halved s
 unfolding halved
 halved_down_all s = refl
-
-pub reached_more : (s : List Bool) (a b : ℕ) → reached s a (b + 1) ≡ (reached s a b || (listed s b && leb a (b + b)))
-reached_more s a b = ap (reached s a) (add-one b)
 
 -- a number below n that reaches a is enough
 pub reached_by : (s : List Bool) (a b n : ℕ) → b < n → (listed s b && leb a (b + b)) ≡ true → reached s a n ≡ true
