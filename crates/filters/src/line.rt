@@ -1,4 +1,5 @@
-// The lines of the chord table: loaded from the sheet, and built length by length.
+// The lines of the chord table: loaded from the sheet, and built length by length. What loads them is inlined, since a row is
+// copied whole only where the size of its sheet is known.
 ghost use Rattle.std.specs.Prelude.{◌≡◌, ℕ, ◌+◌, ◌-◌, ◌*◌, ◌<◌, ◌≤◌, length, take};
 ghost use Rattle.cells.specs.Lattice.{Under};
 ghost use Rattle.masks.specs.Cost.{line_picks};
@@ -13,6 +14,7 @@ use sheets::holder::Holder;
 
 // Takes line `line` into the table at `start`, with all its lengths, and answers the picks made. A place without a cell
 // stands as the padding.
+#[inline(always)]
 pub(crate) fn take_line<H: Holder, S: Side>(
     h: &H,
     plan: &Plan,
@@ -37,6 +39,7 @@ where
 }
 
 // The single cells of a line: the sheet's row, or none where the line lies above the sheet.
+#[inline(always)]
 fn load_line<H: Holder>(
     h: &H,
     above: usize,
@@ -61,6 +64,7 @@ where
 }
 
 // Row `y` of the sheet, with 15 columns of padding on either side.
+#[inline(always)]
 fn read_row<H: Holder>(h: &H, y: usize, w: usize, pad: H::Cell, table: &mut [H::Cell], start: usize)
 where
     H::Cell: Kind,
@@ -77,6 +81,7 @@ where
 }
 
 // The columns of row `y` from `from` up to `to`. Where all of them lie on the sheet, or none does, the loop copies or fills.
+#[inline(always)]
 fn read_cells<H: Holder>(
     h: &H,
     y: usize,

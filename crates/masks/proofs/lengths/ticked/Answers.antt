@@ -1,8 +1,5 @@
 -- A turn ticks one chord's length.
-use Rattle.std.proofs.Common.{◌<◌, Bool, true, List, get_or, set, pos, sym, refl, ap, ◌∙◌, length-set}
-use Rattle.std.proofs.ByRecursion.{All-get_or}
-use Rattle.std.proofs.lemmas.List.{take_all}
-use Rattle.masks.specs.Lengths.{ticked}
+use Rattle.std.proofs.Common.{Bool, true, List, get_or, set, pos, sym, refl, ap, ◌∙◌, length-set}
 use Rattle.masks.specs.declared.chord.Chord.{Chord}
 use Rattle.masks.proofs.Halving.{ticked_none, ticked_more}
 use Rattle.masks.proofs.lengths.ticked.Goals as goal
@@ -13,14 +10,8 @@ none = record { v = pos 0; start = pos 0; length = 0 }
 pub loop-c-init : goal.loop-c-init
 loop-c-init c = (refl, sym ticked_none)
 
-pub bounds-ticks-c : goal.bounds-ticks-c
-bounds-ticks-c c = All-get_or (λ d. d.length < 32) c.args.chords.now c.loop-c.c-index none c.loop-c-test.true c.requires
-
 pub loop-c-preserved : goal.loop-c-preserved
 loop-c-preserved c = (
   simp length-set c.loop-c.invariant.0,
   ap (λ (s : List Bool). set s (get_or c.args.chords.now c.loop-c.c-index none).length true) c.loop-c.invariant.1 ∙ sym (ticked_more c.args.chords.now c.loop-c.c-index none c.loop-c-test.true),
 )
-
-pub returns : goal.returns
-returns c = c.loop-c.invariant.1 ∙ ap ticked (take_all c.loop-c.c-index c.args.chords.now c.loop-c-test.false)

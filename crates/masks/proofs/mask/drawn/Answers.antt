@@ -2,7 +2,7 @@
 use Rattle.std.proofs.Common.{◌≡◌, ℕ, ◌<◌, true, List, [], ◌∷◌, ◌++◌, length, get_or, take, set, ℤ, pos, ◌+ℤ◌, sym, refl, ap, ◌∙◌, subst, arith, w32, SFits, rules}
 use Rattle.std.specs.List.{AllByRecursion}
 use Rattle.std.proofs.ByRecursion.{All-get_or}
-use Rattle.std.proofs.lemmas.List.{length-set, take_more, take_all}
+use Rattle.std.proofs.lemmas.List.{length-set, take_more}
 use Rattle.std.proofs.lemmas.Int.{to_z-of_z}
 use Rattle.std.proofs.lemmas.Bool.{and_parts, cond_below}
 use Rattle.bits.specs.Bit.{with_bit}
@@ -17,18 +17,6 @@ loop-p-init c = (refl, drawn_none)
 
 near_here : (ps : List Point) (i : ℕ) → i < length ps → AllByRecursion (λ p. near p ≡ true) ps → (near_offset (get_or ps i origin).u ≡ true) × (near_offset (get_or ps i origin).v ≡ true)
 near_here ps i h a = and_parts (near_offset (get_or ps i origin).u) (near_offset (get_or ps i origin).v) (All-get_or (λ p. near p ≡ true) ps i origin h a)
-
-pub grid_place-r-requires : goal.grid_place-r-requires
-grid_place-r-requires c =
-    let p = get_or c.args.list.now c.loop-p.p-index origin in
-    let f : SFits w32 p.v = search rules in
-    ap near_offset (to_z-of_z w32 p.v f) ∙ (near_here c.args.list.now c.loop-p.p-index c.loop-p-test.true c.requires).1
-
-pub grid_place-requires : goal.grid_place-requires
-grid_place-requires c =
-    let p = get_or c.args.list.now c.loop-p.p-index origin in
-    let f : SFits w32 p.u = search rules in
-    ap near_offset (to_z-of_z w32 p.u f) ∙ (near_here c.args.list.now c.loop-p.p-index c.loop-p-test.true c.requires).0
 
 pub loop-p-preserved : goal.loop-p-preserved
 loop-p-preserved c =
@@ -49,6 +37,3 @@ loop-p-preserved c =
           (subst (λ (n : ℕ). Drawn (set rows row n) (take i ps ++ p ∷ [])) (sym w)
           (drawn_more rows (take i ps) p col row c.loop-p.invariant.0 hc c.grid_place-r.ensures.within eu ev c.loop-p.invariant.1)),
     )
-
-pub returns : goal.returns
-returns c = subst (Drawn c.loop-p.rows) (take_all c.loop-p.p-index c.args.list.now c.loop-p-test.false) c.loop-p.invariant.1

@@ -1,6 +1,5 @@
 -- A row adds its points.
-use Rattle.std.proofs.Common.{◌≡◌, ℕ, length, sym, subst, arith}
-use Rattle.masks.specs.Rows.{points}
+use Rattle.std.proofs.Common.{sym, arith}
 use Rattle.masks.proofs.Grids.{length_points_none, length_points_more, points_order}
 use Rattle.masks.proofs.mask.Mask.count.Goals as goal
 
@@ -12,10 +11,5 @@ loop-r-preserved c =
     let more = length_points_more c.args.self.now.rows c.loop-r.r in
     (omega (arith, c.loop-r.invariant.0, c.row_count-n.ensures.answer), omega (arith, c.loop-r.invariant.1, c.row_count-n.ensures.few))
 
-pub returns : goal.returns
-returns c =
-    let e : c.loop-r.r ≡ 31 = omega arith in
-    record {
-      answer = subst (λ (n : ℕ). c.loop-r.n ≡ length (points c.args.self.now.rows n)) e c.loop-r.invariant.0;
-      once = points_order c.args.self.now.rows;
-    }
+pub returns-clause-once : goal.returns-clause-once
+returns-clause-once c = points_order c.args.self.now.rows
