@@ -7,7 +7,7 @@ use drawings::drawing::DrawingFault;
 use drawings::drawn::DrawnFault;
 use std::alloc::{AllocError, AllocFailed};
 use std::{fmt, io};
-use texts::SheetFault;
+use texts::{SheetFault, Told};
 
 // A part of a job, known by the word that begins it.
 #[derive(Clone, Copy, PartialEq, Eq, Debug)]
@@ -107,7 +107,13 @@ impl fmt::Display for JobFault {
                 "no line begins the {}; a job has sheet, mask, fore, back and list, in this order",
                 part.word()
             ),
-            JobFault::Sheet(fault) => { fault.tell("whole numbers of millimetres, of 32 bits", f) }
+            JobFault::Sheet(fault) => {
+                let told = Told {
+                    fault: *fault,
+                    cells: "whole numbers of millimetres, of 32 bits",
+                };
+                write!(f, "{told}")
+            }
             JobFault::Drawn(fault) => write!(f, "{fault}"),
             JobFault::NoList(line) => write!(
                 f,

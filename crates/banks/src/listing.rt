@@ -92,7 +92,7 @@ fn print_places(rt: &HostRuntime, places: &[Place], hits: usize) -> io::Result<(
     println!(rt; "hits that the list has no place for: {more}")
 }
 
-// The rows of a sheet, the northmost first.
+// The rows of a sheet, the northmost first; by number, since the places of a holder are no list.
 fn print_rows<H: Holder<Cell = Height>>(rt: &HostRuntime, sheet: &H) -> io::Result<()> {
     let size = sheet.size();
     for y in 0..size.height {

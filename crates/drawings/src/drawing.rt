@@ -175,6 +175,7 @@ fn offset(from: usize, to: usize) -> i32
 fn is_blank(text: &[u8]) -> bool
     ensures { result ≡ blank text.now }
 {
+    // By `all`, that the answer is the definition's would stay open.
     for b in text {
         if *b != b' ' {
             return false;

@@ -1,4 +1,5 @@
-// The acts of a job on its topmost sheet, as lines.
+// The acts of a job on its topmost sheet, as lines. Its rows are gone through by number, since the places of a holder are no
+// list.
 ghost use Rattle.std.specs.Prelude.{◌≡◌, ◌++◌, length, IfOk};
 ghost use Rattle.masks.specs.Chords.{chords};
 ghost use Rattle.masks.specs.Rows.{points};

@@ -69,6 +69,7 @@ fn reached(ticks: &[bool; 32], a: usize) -> bool
     requires { a < 32 }
     ensures { result ≡ reached ticks.now a a }
 {
+    // By `any`, that the answer is the definition's would stay open.
     for b in 0..a {
         if reaches(ticks, a, b) {
             return true;

@@ -7,7 +7,7 @@ use drawings::drawing::DrawingFault;
 use drawings::drawn::DrawnFault;
 use std::alloc::{AllocError, AllocFailed};
 use std::{fmt, io};
-use texts::SheetFault;
+use texts::{SheetFault, Told};
 
 // A part of a job, known by the word that begins it.
 #[derive(Clone, Copy, PartialEq, Eq, Debug)]
@@ -109,7 +109,13 @@ impl fmt::Display for JobFault {
                 "no line begins the {}; a job has sheet, mask, threshold and calls, in this order",
                 part.word()
             ),
-            JobFault::Sheet(fault) => fault.tell("whole numbers from 0 to 255", f),
+            JobFault::Sheet(fault) => {
+                let told = Told {
+                    fault: *fault,
+                    cells: "whole numbers from 0 to 255",
+                };
+                write!(f, "{told}")
+            }
             JobFault::Drawn(fault) => write!(f, "{fault}"),
             JobFault::NoThreshold(line) => write!(
                 f,

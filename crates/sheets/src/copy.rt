@@ -1,4 +1,4 @@
-// Copying one holder's sheet into another of its size.
+// Copying one holder's sheet into another of its size. The loops go by number, since the places of a holder are no list.
 ghost use Rattle.std.specs.Prelude.{◌≡◌, ◌&&◌, if◌then◌else◌, ◌==◌, nat_lt};
 ghost use Rattle.sheets.specs.Copied.{copied_where, same_size};
 

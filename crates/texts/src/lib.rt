@@ -1,7 +1,7 @@
 // The parts of a job that is written as text. Lines count from 0 here, and from 1 where they are told.
 #![tactic(auto)]
 
-ghost use Rattle.std.specs.Prelude.{◌≤◌, ◌<◌, IfSome, length};
+ghost use Rattle.std.specs.Prelude.{◌≤◌, ◌<◌, IfSome, IfOk, length};
 
 use sheets::holder::Size;
 use std::alloc::{AllocError, AllocFailed, Global};
@@ -24,14 +24,21 @@ pub enum SheetFault {
     Memory,
 }
 
-impl SheetFault {
-    // Tells the fault of a sheet with cells of that sort.
-    pub fn tell<W: fmt::Write>(self, cells: &str, f: &mut fmt::Formatter<W>) -> fmt::Result {
-        match self {
+// Why a sheet cannot be taken in, with the words for its cells.
+#[derive(Clone, Copy)]
+pub struct Told {
+    pub fault: SheetFault,
+    pub cells: &'static str,
+}
+
+impl fmt::Display for Told {
+    fn fmt<W: fmt::Write>(&self, f: &mut fmt::Formatter<W>) -> fmt::Result {
+        match self.fault {
             SheetFault::NoCell(line) => write!(
                 f,
-                "line {}: a row of the sheet has {cells}",
-                line.saturating_add(1)
+                "line {}: a row of the sheet has {}",
+                line.saturating_add(1),
+                self.cells
             ),
             SheetFault::UnlikeRow(line) => write!(
                 f,
@@ -115,7 +122,8 @@ where
     }
 }
 
-// Takes in a sheet, the lines `from` to `end`, as far as there are any: its size, and its numbers row by row.
+// Takes in a sheet, the lines `from` to `end`, as far as there are any: its size, which the filters take, and its numbers row
+// by row.
 pub fn read_sheet<T: FromStr + Drop>(
     alloc: Global,
     lines: &[String],
@@ -124,6 +132,7 @@ pub fn read_sheet<T: FromStr + Drop>(
 ) -> Result<(Size, Vec<T>), SheetFault>
 where
     T::Err: Drop,
+    ensures { IfOk result (λ p. (p.0.width ≤ 2048) × ((1 ≤ p.0.height) × (p.0.height ≤ 2048))) }
 {
     let mut cells = Vec::new(alloc);
     let size = read_rows(lines, from, end, &mut cells)?;

@@ -1,4 +1,5 @@
-// Mid: halfway between the opening and the closing of a sheet whose cells have levels.
+// Mid: halfway between the opening and the closing of a sheet whose cells have levels. The loops go by number, since the
+// places of a holder are no list.
 ghost use Rattle.std.specs.Prelude.{◌≡◌, ◌*◌, ◌&&◌, length, Some, Ok, ◌==◌, nat_lt};
 ghost use Rattle.masks.specs.Cost.{filter_picks};
 ghost use Rattle.masks.specs.declared.mask.Mask.{Mask};
