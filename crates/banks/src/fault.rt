@@ -7,7 +7,7 @@ use drawings::drawing::DrawingFault;
 use drawings::drawn::DrawnFault;
 use std::alloc::{AllocError, AllocFailed};
 use std::{fmt, io};
-use texts::{SheetFault, Told};
+use texts::{SheetFault, ToldSheetFault};
 
 // A part of a job, known by the word that begins it.
 #[derive(Clone, Copy, PartialEq, Eq, Debug)]
@@ -20,7 +20,7 @@ pub enum Part {
 }
 
 impl Part {
-    // The word that begins the part, which lines are compared with.
+    // The word that begins the part: lines are compared with it, so that it is wanted as a word and not only as text.
     pub fn word(self) -> &'static str {
         match self {
             Part::Sheet => "sheet",
@@ -108,7 +108,7 @@ impl fmt::Display for JobFault {
                 part.word()
             ),
             JobFault::Sheet(fault) => {
-                let told = Told {
+                let told = ToldSheetFault {
                     fault: *fault,
                     cells: "whole numbers of millimetres, of 32 bits",
                 };

@@ -55,13 +55,13 @@ fn close(acts: &mut Vec<Act>, first: usize, run: &[Point]) -> Result<(), AllocEr
     ensures { IfOk result (λ _. Closes first run.now acts.old.items acts.new.items) }
 {
     if !run.is_empty() {
-        acts.push(Act::Run(mask_of(first, run)))?;
+        acts.push(Act::Run(mask_of_run(first, run)))?;
     }
     Ok(())
 }
 
 // The mask of a run of points, the first of which is that word.
-fn mask_of(first: usize, run: &[Point]) -> Result<Mask, JobFault>
+fn mask_of_run(first: usize, run: &[Point]) -> Result<Mask, JobFault>
     requires { first + length run.now < 2 ^ 63 }
     ensures { AlikeAct (Run result) (act_of first run.now) }
 {

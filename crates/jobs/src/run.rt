@@ -1,5 +1,5 @@
 // The listing of a strip.
-ghost use Rattle.std.specs.Prelude.{◌≡◌, [], ◌∷◌, map, IfOk, string_bytes};
+ghost use Rattle.std.specs.Prelude.{◌≡◌, [], ◌∷◌, map, Ok, IfOk, IfErr, string_bytes};
 ghost use Rattle.strips.specs.Reading.{reading};
 ghost use Rattle.strips.specs.Views.{job_of};
 ghost use Rattle.jobs.specs.Piles.{turned, framed};
@@ -30,9 +30,9 @@ use strips::kind::CellKind;
 pub fn run(heap: Global, bytes: &[u8]) -> Result<Vec<Line>, AllocError>
     ensures { IfOk result (λ v. v.items ≡ listing (reading bytes.now)) }
 {
-    match read(bytes) {
+    match read_job(bytes) {
         Ok(job) => list(heap, &job),
-        Err(fault) => refusal(heap, JobFault::from(fault)),
+        Err(fault) => refusal(heap, fault),
     }
 }
 
@@ -42,6 +42,15 @@ pub fn run_to_text(heap: Global, bytes: &[u8]) -> Result<String, AllocError>
 {
     let lines = run(heap, bytes)?;
     text(heap, lines.as_slice())
+}
+
+// The job that the strip tells, or why it tells none.
+fn read_job(bytes: &[u8]) -> Result<JobStrip<'_>, JobFault>
+    ensures found { IfOk result (λ s. reading bytes.now ≡ Ok (job_of s)) }
+    ensures refused { IfErr result (λ f. listing (reading bytes.now) ≡ Line.Refused f ∷ []) }
+{
+    let job = read(bytes)?;
+    Ok(job)
 }
 
 // The one line of a strip that is refused.

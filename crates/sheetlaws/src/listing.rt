@@ -61,7 +61,7 @@ fn print_refusal(rt: &HostRuntime, refusal: Refusal) -> io::Result<()> {
 
 // The sheet after a step. It is drawn where its name is new.
 fn print_step(rt: &HostRuntime, job: &Job, shown: &Album, step: &Step) -> Result<(), JobFault> {
-    match step.shown {
+    match step.sheet {
         Shown::New(name) => {
             if let Some(picture) = shown.named(name) {
                 print_picture(rt, job, shown, picture)?;

@@ -20,7 +20,7 @@ pub enum Shown {
 pub struct Step {
     pub pass: Pass,
     pub answer: Answer,
-    pub shown: Shown,
+    pub sheet: Shown,
 }
 
 #[derive(Drop)]
@@ -64,16 +64,17 @@ impl Report {
             if let Answer::Picks(_) = answer {
                 name = name.then::<Gray>(pass.sort);
             }
-            let mut sheet = Shown::Again(name);
-            if shown.named(name).is_none() {
+            let sheet = if shown.named(name).is_some() {
+                Shown::Again(name)
+            } else {
                 let made = Outcome::of(heap, job, front.as_slice())?;
                 shown.add(name, made.into_grays())?;
-                sheet = Shown::New(name);
-            }
+                Shown::New(name)
+            };
             steps.push(Step {
                 pass: *pass,
                 answer: *answer,
-                shown: sheet,
+                sheet,
             })?;
         }
         Ok(Report {

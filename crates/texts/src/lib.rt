@@ -26,12 +26,12 @@ pub enum SheetFault {
 
 // Why a sheet cannot be taken in, with the words for its cells.
 #[derive(Clone, Copy)]
-pub struct Told {
+pub struct ToldSheetFault {
     pub fault: SheetFault,
     pub cells: &'static str,
 }
 
-impl fmt::Display for Told {
+impl fmt::Display for ToldSheetFault {
     fn fmt<W: fmt::Write>(&self, f: &mut fmt::Formatter<W>) -> fmt::Result {
         match self.fault {
             SheetFault::NoCell(line) => write!(
@@ -122,8 +122,8 @@ where
     }
 }
 
-// Takes in a sheet, the lines `from` to `end`, as far as there are any: its size, which the filters take, and its numbers row
-// by row.
+// Takes in a sheet, the lines `from` to `end`, as far as there are any: its size, within what the filters take, and its
+// numbers row by row.
 pub fn read_sheet<T: FromStr + Drop>(
     alloc: Global,
     lines: &[String],

@@ -5,7 +5,7 @@ use Rattle.masks.specs.declared.mask.Mask.{Mask}
 use Rattle.masks.specs.declared.fault.MaskFault.{MaskFault}
 use Rattle.jobs.specs.declared.fault.PointsFault.{PointsFault}
 use Rattle.jobs.proofs.Acts.{laid_alike}
-use Rattle.jobs.proofs.act.mask_of.Goals as goal
+use Rattle.jobs.proofs.act.mask_of_run.Goals as goal
 
 -- what is a mask when the refusals are told otherwise was one before
 was_made : (r : Result Mask MaskFault) (m : Mask) → MatchResult r (λ n. ◌≡◌ {A = Result Mask PointsFault} (Ok m) (Ok n)) (λ f. ⊥) → r ≡ Ok m
