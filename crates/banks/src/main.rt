@@ -12,7 +12,8 @@ mod listing;
 
 use fault::JobFault;
 use job::Job;
-use std::io::{BufRead, BufReader};
+use std::io;
+use std::io::{BufRead, BufReader, ErrorKind};
 use std::process::ExitCode;
 
 fn main(rt: HostRuntime) -> ExitCode {
@@ -34,13 +35,19 @@ fn run(rt: &HostRuntime) -> Result<(), JobFault> {
 
 // The lines of standard input.
 fn input(rt: &HostRuntime) -> Result<Vec<String>, JobFault> {
-    let alloc = rt.alloc();
-    let mut lines = Vec::new(alloc);
-    for line in BufReader::new(alloc, rt.reader())?.lines(alloc) {
-        match line {
-            Ok(text) => lines.push(text)?,
-            Err(_) => return Err(JobFault::Unread),
-        }
+    let heap = rt.alloc();
+    let reader = BufReader::new(heap, rt.reader()).map_err(unread)?;
+    let mut lines = Vec::new(heap);
+    for line in reader.lines(heap) {
+        lines.push(line.map_err(unread)?)?;
     }
     Ok(lines)
+}
+
+// Why the input is not read.
+fn unread(error: io::Error) -> JobFault {
+    match error.kind() {
+        ErrorKind::OutOfMemory => JobFault::Memory,
+        _ => JobFault::Unread,
+    }
 }
