@@ -1,4 +1,4 @@
-// What can be wrong with the input, and the line that says so.
+// What can keep a plan from being made, and the line that says so.
 ghost use Rattle.std.specs.Prelude.{◌≡◌};
 ghost use Rattle.drawings.specs.declared.drawn.DrawnFault.TheVariants.{Unread};
 ghost use Rattle.maskplan.specs.declared.fault.PlanFault.TheVariants.{Drawn, Memory, Input};
@@ -18,8 +18,11 @@ pub enum PlanFault {
     WrongSize(u64, u64),
     // The drawing draws no mask.
     Drawn(DrawnFault),
-    // The input is no text.
+    // The input is no text, or cannot be read.
     Input,
+    // The plan cannot be written.
+    Unwritten,
+    // There is no memory for it; this says nothing of the drawing.
     Memory,
 }
 
@@ -86,6 +89,7 @@ impl fmt::Display for PlanFault {
             }
             PlanFault::Drawn(fault) => write!(f, "{fault}"),
             PlanFault::Input => write!(f, "the drawing is no text"),
+            PlanFault::Unwritten => write!(f, "the plan cannot be written"),
             PlanFault::Memory => write!(f, "there is not enough memory"),
         }
     }

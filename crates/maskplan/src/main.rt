@@ -1,7 +1,7 @@
 // Plans a mask: reads a drawing, and says what filters under it cost on a sheet of a given size.
 #![tactic(auto)]
 
-// What can be wrong with the input, and the line that says so.
+// What can keep a plan from being made, and the line that says so.
 mod fault;
 
 // The size of the sheet and the costs, as values.
@@ -14,8 +14,9 @@ use drawings::drawing::Drawing;
 use drawings::drawn::mask_of;
 use fault::PlanFault;
 use plan::Size;
-use std::env;
+use std::io::ErrorKind;
 use std::process::ExitCode;
+use std::{env, io};
 
 fn main(rt: HostRuntime) -> ExitCode {
     match run(&rt) {
@@ -33,7 +34,7 @@ fn run(rt: &HostRuntime) -> Result<(), PlanFault> {
     let lines = input(rt)?;
     let drawing = Drawing::read(rt.alloc(), lines.as_slice())?;
     let mask = mask_of(&drawing)?;
-    Ok(listing::print(rt, &drawing, &mask, size)?)
+    listing::print(rt, &drawing, &mask, size).map_err(unwritten)
 }
 
 // The two arguments, the sheet's width and height.
@@ -58,7 +59,23 @@ fn size(rt: &HostRuntime) -> Result<Size, PlanFault> {
 fn input(rt: &HostRuntime) -> Result<Vec<String>, PlanFault> {
     let mut lines = Vec::new(rt.alloc());
     for line in rt.lines(rt.alloc()) {
-        lines.push(line?)?;
+        lines.push(line.map_err(unread)?)?;
     }
     Ok(lines)
+}
+
+// Why the input is not read.
+fn unread(error: io::Error) -> PlanFault {
+    match error.kind() {
+        ErrorKind::OutOfMemory => PlanFault::Memory,
+        _ => PlanFault::from(error),
+    }
+}
+
+// Why the plan is not printed to its end.
+fn unwritten(error: io::Error) -> PlanFault {
+    match error.kind() {
+        ErrorKind::OutOfMemory => PlanFault::Memory,
+        _ => PlanFault::Unwritten,
+    }
 }
