@@ -11,7 +11,7 @@ use Rattle.masks.specs.declared.point.Point.{Point}
 use Rattle.sheets.specs.Sheet.{Sheet}
 use Rattle.morphology.specs.Calls.{sheet_by}
 use Rattle.morphology.specs.Filters.{points_of}
-use Rattle.morphology.specs.Refusals.{fits, by_table, and_then, judged, judged_find}
+use Rattle.morphology.specs.Refusals.{fits, sized, by_table, and_then, judged, judged_find}
 use Rattle.morphology.specs.declared.call.Filter.TheVariants.{Erode, Dilate}
 use Rattle.morphology.specs.declared.refusal.Refusal.{Refusal}
 use Rattle.morphology.specs.declared.refusal.Refusal.TheVariants.{WrongSize, ShortTable}
@@ -37,8 +37,8 @@ plan_picks ws ps p w h P =
     ∙ ap (λ (n : ℕ). (h + spanned ws - 1) * line_picks w (lengths (chords ws 31)) + w * h * (n - 1)) P.count
 
 module _ (w h : ℕ) (m : Mask) (n : ℕ) (ps : List Point) (p : Plan) (P : PlanOf m.rows ps p) where
-  by_size : (b : Bool) → (fits w && fits h) ≡ b → judged w h (Some m) n ≡ cond b (by_table w m n) (Err (WrongSize w h))
-  by_size b e = ap (λ (t : Bool). cond t (by_table w m n) (Err (WrongSize w h))) e
+  by_size : (b : Bool) → (fits w && fits h) ≡ b → judged w h (Some m) n ≡ cond b (by_table w m n) (Err (WrongSize (sized w h)))
+  by_size b e = ap (λ (t : Bool). cond t (by_table w m n) (Err (WrongSize (sized w h)))) e
 
   pub judged_short : (fits w && fits h) ≡ true → n < p.rows * p.sizes * (w + 30) → judged w h (Some m) n ≡ Err (ShortTable (p.rows * p.sizes * (w + 30)) n)
   judged_short e less =
@@ -69,12 +69,12 @@ module _ {C : Type 0} (k : Lattice C) (m : Mask) (f : Sheet C) where
 
   pub eroded_verdict : {D : Type 0} (s : Sheet D) (n : ℕ) → eroded_by (verdict s m n) k (points_of m) f ≡ sheet_by k Erode (verdict s m n) f
   eroded_verdict s n =
-      eroded_cases (fits s.width && fits s.height) (ltb n (table_cells m.rows s.width)) (ShortTable (table_cells m.rows s.width) n) (WrongSize s.width s.height)
+      eroded_cases (fits s.width && fits s.height) (ltb n (table_cells m.rows s.width)) (ShortTable (table_cells m.rows s.width) n) (WrongSize (sized s.width s.height))
 
   -- a dilation is the erosion of the dual lattice under the turned points
   pub dilated_verdict : {D : Type 0} (s : Sheet D) (n : ℕ) → eroded_by (verdict s m n) (dual k) (map turned (points_of m)) f ≡ sheet_by k Dilate (verdict s m n) f
   dilated_verdict s n =
-      dilated_cases (fits s.width && fits s.height) (ltb n (table_cells m.rows s.width)) (ShortTable (table_cells m.rows s.width) n) (WrongSize s.width s.height)
+      dilated_cases (fits s.width && fits s.height) (ltb n (table_cells m.rows s.width)) (ShortTable (table_cells m.rows s.width) n) (WrongSize (sized s.width s.height))
 
 -- a find is judged by its fore mask, and then by its back mask
 find_cases : (b : Bool) (fores backs v : Result Mask Refusal) (r : Refusal) (m : Mask) → cond b fores (Err r) ≡ Ok m → cond b backs (Err r) ≡ v → and_then (cond b fores (Err r)) (λ _. backs) ≡ v
@@ -82,4 +82,4 @@ find_cases true fores backs v r m e d = ap (λ t. and_then t (λ _. backs)) e �
 find_cases false fores backs v r m e d = cc
 
 pub find_judged : (w h n l : ℕ) (fore back : Mask) (v : Result Mask Refusal) → judged w h (Some fore) n ≡ Ok fore → judged w h (Some back) l ≡ v → judged_find w h fore n back l ≡ v
-find_judged w h n l fore back v e d = find_cases (fits w && fits h) (by_table w fore n) (by_table w back l) v (WrongSize w h) fore e d
+find_judged w h n l fore back v e d = find_cases (fits w && fits h) (by_table w fore n) (by_table w back l) v (WrongSize (sized w h)) fore e d

@@ -69,7 +69,7 @@ pub(crate) fn admit(size: Size, plan: &Plan, cells: usize) -> Result<(), Refusal
     ensures room { IfOk result (λ _. ((1 ≤ size.width) × (size.width ≤ 2048)) × ((1 ≤ size.height) × (size.height ≤ 2048)) × (plan.now.rows * plan.now.sizes * (size.width + 30) ≤ cells)) }
 {
     if !can_filter(size) {
-        return Err(Refusal::WrongSize(size.width, size.height));
+        return Err(Refusal::WrongSize(size));
     }
     let needs = plan.rows * plan.sizes * (size.width + 30);
     if cells < needs {

@@ -220,7 +220,10 @@ fn a_sheet_is_at_most_2048_wide(rt: HostRuntime) -> Result<(), Fail> {
     let mut wider = [Gray(7); 2049];
     assert_eq!(rt;
         erode(&mut Rows::new(2049, &mut wider), &mask, &mut table),
-        Err(Refusal::WrongSize(2049, 1))
+        Err(Refusal::WrongSize(Size {
+            width: 2049,
+            height: 1,
+        }))
     );
     Ok(())
 }

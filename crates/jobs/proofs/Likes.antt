@@ -10,7 +10,7 @@ use Rattle.masks.specs.declared.point.Point.{Point}
 use Rattle.sheets.specs.Sheet.{Sheet}
 use Rattle.morphology.specs.Calls.{State, filtered, picks, sheet_by, answered_by}
 use Rattle.morphology.specs.Filters.{eroded, dilated, opened, closed}
-use Rattle.morphology.specs.Refusals.{fits, judged, by_mask}
+use Rattle.morphology.specs.Refusals.{fits, sized, judged, by_mask}
 use Rattle.morphology.specs.declared.refusal.Refusal.{Refusal}
 use Rattle.morphology.specs.declared.refusal.Refusal.TheVariants.{WrongSize, ShortTable}
 use Rattle.morphology.specs.declared.call.Filter as filters
@@ -57,7 +57,7 @@ mask_alike w (Some m) (Some m') n e =
 
 judged_alike : (w h : ℕ) (a b : Option Mask) (n : ℕ) → AlikeMask a b → AlikeVerdict (judged w h a n) (judged w h b n)
 unfolding AlikeVerdict
-judged_alike w h a b n e = either_way (fits w && fits h) (by_mask w a n) (by_mask w b n) (Err (WrongSize w h)) (mask_alike w a b n e) refl
+judged_alike w h a b n e = either_way (fits w && fits h) (by_mask w a n) (by_mask w b n) (Err (WrongSize (sized w h))) (mask_alike w a b n e) refl
 
 filtered_same : {C : Type 0} (k : Lattice C) (q : filters.Filter) (m n : Mask) (f : Sheet C) → marked m.rows ≡ marked n.rows → filtered k q m f ≡ filtered k q n f
 filtered_same k Erode m n f e = ap (λ (ps : List Point). eroded k ps f) (points_same m.rows n.rows e)

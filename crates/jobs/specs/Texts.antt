@@ -1,5 +1,4 @@
 -- The text of a listing, byte by byte.
---     filter_name q      the name of a filter
 --     eight_digits w     a word in eight hexadecimal digits
 --     cell_text k w      a cell of the kind k by its word
 --     row_text k ws      the cells of a row, with a blank between two
@@ -12,7 +11,7 @@ use Rattle.std.specs.Prelude.{ℕ, List, [], ◌∷◌, ◌++◌, ◌-◌, codes
 use Rattle.std.specs.List.{flat_map}
 use Rattle.std.specs.Int.{w32, cast_signed}
 use Rattle.std.specs.Fmt.{digits, decimal, signed_decimal}
-use Rattle.morphology.specs.declared.call.Filter as filters
+use Rattle.morphology.specs.Calls.{filter_name}
 use Rattle.strips.specs.Kinds.{kind_name}
 use Rattle.strips.specs.declared.kind.CellKind.{CellKind}
 use Rattle.strips.specs.declared.kind.CellKind.TheVariants as kinds
@@ -20,12 +19,6 @@ use Rattle.jobs.specs.Faults.{number, word, layer, layer_name}
 use Rattle.jobs.specs.declared.fault.JobFault.{JobFault}
 use Rattle.jobs.specs.declared.line.Line.{Line}
 use Rattle.jobs.specs.declared.line.Line.TheVariants.{Refused, Sheet, Mask, Call, Cells}
-
-abbrev pub filter_name : filters.Filter → List ℕ
-filter_name filters.TheVariants.Erode = codes "erode"
-filter_name filters.TheVariants.Dilate = codes "dilate"
-filter_name filters.TheVariants.Open = codes "open"
-filter_name filters.TheVariants.Close = codes "close"
 
 -- in capitals, with zeros (48) before them
 abbrev pub eight_digits : ℕ → List ℕ

@@ -1,11 +1,10 @@
 // A listing as text.
 ghost use Rattle.std.specs.Prelude.{◌≡◌, IfOk, Some, string_bytes};
 ghost use Rattle.std.specs.Fmt.{WritesOnOk};
-ghost use Rattle.jobs.specs.Texts.{filter_name, cell_text, rest_text, row_text, why_text, line_text, text};
+ghost use Rattle.jobs.specs.Texts.{cell_text, rest_text, row_text, why_text, line_text, text};
 
 use crate::fault::JobFault;
 use crate::line::Line;
-use morphology::call::Filter;
 use std::alloc::{AllocError, Global};
 use std::fmt;
 use std::fmt::Write;
@@ -34,13 +33,9 @@ impl fmt::Display for Line {
             }
             Line::Sheet(kind, width, height) => write!(f, "sheet {kind} {width} {height}"),
             Line::Mask(points, chords) => write!(f, "mask {points} chords {chords}"),
-            Line::Call(filter, Ok(picks)) => {
-                let name = filter_name(*filter);
-                write!(f, "{name} {picks}")
-            }
+            Line::Call(filter, Ok(picks)) => write!(f, "{filter} {picks}"),
             Line::Call(filter, Err(fault)) => {
-                let name = filter_name(*filter);
-                write!(f, "{name}")?;
+                write!(f, "{filter}")?;
                 show_why(*fault, f)
             }
             Line::Cells(kind, row) => show_row(*kind, row.words(), f),
@@ -56,18 +51,6 @@ fn show_why<W: fmt::Write>(fault: JobFault, f: &mut fmt::Formatter<W>) -> fmt::R
     match fault.word() {
         Some(word) => write!(f, " refused {number} word {word}"),
         None => write!(f, " refused {number}"),
-    }
-}
-
-// A filter is of another crate, so that Display cannot be written for it here.
-fn filter_name(filter: Filter) -> &'static str
-    ensures { result.now ≡ filter_name filter }
-{
-    match filter {
-        Filter::Erode => "erode",
-        Filter::Dilate => "dilate",
-        Filter::Open => "open",
-        Filter::Close => "close",
     }
 }
 

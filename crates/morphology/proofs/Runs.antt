@@ -6,7 +6,7 @@ use Rattle.masks.specs.Points.{Among}
 use Rattle.masks.specs.declared.mask.Mask.{Mask}
 use Rattle.sheets.specs.Sheet.{Sheet}
 use Rattle.morphology.specs.Filters.{points_of}
-use Rattle.morphology.specs.Refusals.{fits, by_mask}
+use Rattle.morphology.specs.Refusals.{fits, sized, by_mask}
 use Rattle.morphology.specs.Calls.{State, new, filtered, verdict, sheet_by, after, run, sheets_shown}
 use Rattle.morphology.specs.declared.standing.Sort.{Sort}
 use Rattle.morphology.specs.declared.standing.Sort.TheVariants.{Opening, Closing}
@@ -37,7 +37,7 @@ goes_by_mask w n m (Some l) p = goes_cond m (ltb n (table_cells l.rows w)) (Err 
 
 goes : {C : Type 0} (m : Mask) (s : State C) (n : ℕ) → Laid m s.mask → Goes m (verdict s n)
 goes m s n p = goes_cond m (fits s.sheet.width && fits s.sheet.height) (by_mask s.sheet.width s.mask n)
-    (Err (WrongSize s.sheet.width s.sheet.height)) (goes_by_mask s.sheet.width n m s.mask p) tt
+    (Err (WrongSize (sized s.sheet.width s.sheet.height))) (goes_by_mask s.sheet.width n m s.mask p) tt
 
 -- the word begins with a, if it has a letter
 abbrev Starts : Sort → List Sort → Type 0

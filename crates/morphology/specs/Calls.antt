@@ -1,4 +1,5 @@
 -- A worksheet's state, and what calls on it do, answer and show.
+--     filter_name q          the name of a filter, byte by byte
 --     State C                a sheet, and perhaps a mask
 --     new f                  the state of a new worksheet: the sheet f and no mask
 --     filtered k q m f       what the filter q makes of a sheet under the mask m
@@ -11,7 +12,7 @@
 --     run k cs s             the state after a list of calls
 --     answers k cs s         the answers to a list of calls
 --     sheets_shown k cs s    the sheet before any call, and the sheet after each
-use Rattle.std.specs.Prelude.{ℕ, ◌*◌, List, [], ◌∷◌, Some, None, Ok, Err, Option, Result}
+use Rattle.std.specs.Prelude.{ℕ, ◌*◌, List, [], ◌∷◌, codes, Some, None, Ok, Err, Option, Result}
 use Rattle.cells.specs.Lattice.{Lattice}
 use Rattle.masks.specs.Cost.{filter_picks}
 use Rattle.masks.specs.declared.mask.Mask.{Mask}
@@ -25,6 +26,12 @@ use Rattle.morphology.specs.declared.call.Call.{Call}
 use Rattle.morphology.specs.declared.call.Call.TheVariants.{Lay, Apply}
 use Rattle.morphology.specs.declared.call.Answer.{Answer}
 use Rattle.morphology.specs.declared.call.Answer.TheVariants.{Laid, Picks, Refused}
+
+abbrev pub filter_name : Filter → List ℕ
+filter_name Erode = codes "erode"
+filter_name Dilate = codes "dilate"
+filter_name Open = codes "open"
+filter_name Close = codes "close"
 
 -- what a worksheet holds
 pub record State (C : Type 0) : Type 0 where

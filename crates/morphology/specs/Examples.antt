@@ -18,7 +18,7 @@ use Rattle.sheets.specs.Sheet.{Sheet, sheet_of}
 use Rattle.morphology.specs.Filters.{eroded, dilated, opened, closed, points_of}
 use Rattle.morphology.specs.Mid.{mid, mid_picks}
 use Rattle.morphology.specs.Find.{HitList, find_picks}
-use Rattle.morphology.specs.Refusals.{judged_mid, judged_find}
+use Rattle.morphology.specs.Refusals.{sized, judged_mid, judged_find}
 use Rattle.morphology.specs.Calls.{answer}
 use Rattle.morphology.specs.RowSheets.{row, Shows, halfway, flag_row, ShowsFlags, east}
 use Rattle.morphology.specs.Edge.{EdgeExample}
@@ -90,11 +90,11 @@ pub record CallExamples : Type 0 where
   pub open_picks : open_answer three (Some mask) 66 ≡ Picks 64
   pub open_short : open_answer three (Some mask) 65 ≡ Refused (ShortTable 66 65)
   pub open_bare : open_answer three None 65 ≡ Refused NoMask
-  pub open_empty : open_answer (blank 0) None 65 ≡ Refused (WrongSize 0 1)
-  pub open_wide : open_answer (blank 2049) None 65 ≡ Refused (WrongSize 2049 1)
+  pub open_empty : open_answer (blank 0) None 65 ≡ Refused (WrongSize (sized 0 1))
+  pub open_wide : open_answer (blank 2049) None 65 ≡ Refused (WrongSize (sized 2049 1))
   pub open_widest : open_answer (blank 2048) None 65 ≡ Refused NoMask
   pub mid_cost : mid_picks mask 3 1 ≡ 128
-  pub mid_unlike : judged_mid 3 1 4 1 (Some mask) 66 ≡ Err (UnlikeSizes 3 1 4 1)
+  pub mid_unlike : judged_mid 3 1 4 1 (Some mask) 66 ≡ Err (UnlikeSizes (sized 3 1) (sized 4 1))
   pub mid_short : judged_mid 3 1 4 1 (Some mask) 65 ≡ Err (ShortTable 66 65)
   pub find_cost : find_picks mask letter 4 4 ≡ 586
   pub find_fore : judged_find 3 1 mask 65 letter 0 ≡ Err (ShortTable 66 65)

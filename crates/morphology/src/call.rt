@@ -1,6 +1,7 @@
 // The calls on a worksheet, and what each answers.
 use crate::refusal::Refusal;
 use masks::mask::Mask;
+use std::fmt;
 
 // A filter that replaces the sheet.
 #[derive(Clone, Copy, PartialEq, Eq, Debug)]
@@ -9,6 +10,22 @@ pub enum Filter {
     Dilate,
     Open,
     Close,
+}
+
+impl fmt::Display for Filter {
+    ghost use Rattle.std.specs.Prelude.{Some};
+    ghost use Rattle.morphology.specs.Calls.{filter_name};
+
+    ghost output = { λ q. Some (filter_name q) };
+
+    fn fmt<W: fmt::Write>(&self, f: &mut fmt::Formatter<W>) -> fmt::Result {
+        f.write_str(match self {
+            Filter::Erode => "erode",
+            Filter::Dilate => "dilate",
+            Filter::Open => "open",
+            Filter::Close => "close",
+        })
+    }
 }
 
 // A call on a worksheet.

@@ -2,17 +2,19 @@
 ghost use Rattle.std.specs.Prelude.{◌≡◌};
 ghost use Rattle.morphology.specs.Refusals.{number};
 
+use sheets::holder::Size;
+
 // The ground on which a filter is refused.
 #[derive(Clone, Copy, PartialEq, Eq, Debug)]
 pub enum Refusal {
-    // The sheet's width or height, told in this order, is 0 or above 2,048.
-    WrongSize(usize, usize),
+    // The sheet's width or height is 0 or above 2,048.
+    WrongSize(Size),
     // No mask is laid.
     NoMask,
     // The table needs the first number of cells, and has only the second.
     ShortTable(usize, usize),
-    // The width and height of one sheet are not those of the other.
-    UnlikeSizes(usize, usize, usize, usize),
+    // The size of one sheet is not that of the other.
+    UnlikeSizes(Size, Size),
 }
 
 impl Refusal {
@@ -21,10 +23,10 @@ impl Refusal {
         ensures { result ≡ number self }
     {
         match self {
-            Refusal::WrongSize(_, _) => 9,
+            Refusal::WrongSize(_) => 9,
             Refusal::NoMask => 10,
             Refusal::ShortTable(_, _) => 11,
-            Refusal::UnlikeSizes(_, _, _, _) => 12,
+            Refusal::UnlikeSizes(_, _) => 12,
         }
     }
 }

@@ -53,18 +53,13 @@ impl Standing {
     {
         match self {
             Standing::Loaded => Standing::Once(sort),
-            Standing::Once(first) => {
-                if sort == first {
-                    Standing::Once(first)
-                } else {
+            Standing::Once(first) | Standing::Twice(first) | Standing::Thrice(first) => {
+                if sort != first {
                     Standing::Twice(first)
-                }
-            }
-            Standing::Twice(first) | Standing::Thrice(first) => {
-                if first == sort {
+                } else if self == Standing::Once(first) {
+                    self
+                } else {
                     Standing::Thrice(first)
-                } else {
-                    Standing::Twice(first)
                 }
             }
         }

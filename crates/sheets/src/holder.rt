@@ -10,7 +10,7 @@ pub struct Size {
 }
 
 impl Size {
-    // Of a sheet without cells.
+    // The size that is shown where there is nothing to show: of cells too few for a sheet, or of a window off its holder.
     pub const NONE: Size = Size {
         width: 0,
         height: 0,

@@ -16,7 +16,7 @@ pub trait Layout {
     fn fits(size: Size, n: usize) -> bool
         ensures { result ≡ nat_le (room size.width size.height) n };
 
-    // The index of the cell in column x and row y, where it is a number at all.
+    // The index of the cell in column x and row y, where it fits its type.
     fn place(width: usize, x: usize, y: usize) -> usize
         requires { place width x y ≤ usize.MAX }
         ensures { result ≡ place width x y };

@@ -80,12 +80,10 @@ impl<'a, C: Copy, L: Layout> Holder for Lent<'a, C, L> {
     }
 
     fn put(&mut self, x: usize, y: usize, c: C) -> bool {
-        match self.spot_of(x, y) {
-            Some(i) => {
-                self.cells[i] = c;
-                true
-            }
-            None => false,
-        }
+        let Some(i) = self.spot_of(x, y) else {
+            return false;
+        };
+        self.cells[i] = c;
+        true
     }
 }

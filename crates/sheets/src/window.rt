@@ -79,10 +79,10 @@ where
         ensures below { H.Holder.sheet self.new.inner ≡ put_through H.Holder.sheet self.old x y c }
         ensures asked { self.new.asked ≡ self.old.asked }
     {
-        match self.place_below(x, y) {
-            Some((column, row)) => self.inner.put(column, row, c),
-            None => false,
-        }
+        let Some((column, row)) = self.place_below(x, y) else {
+            return false;
+        };
+        self.inner.put(column, row, c)
     }
 }
 

@@ -56,8 +56,8 @@ fn tell_answer(rt: &HostRuntime, answer: Result<u64, Refusal>) -> io::Result<()>
         Err(Refusal::ShortTable(needed, lent)) => {
             println!(rt; "refused 11 needed {needed} lent {lent}")
         }
-        Err(Refusal::WrongSize(width, height)) => {
-            println!(rt; "refused 9 width {width} height {height}")
+        Err(Refusal::WrongSize(size)) => {
+            println!(rt; "refused 9 width {} height {}", size.width, size.height)
         }
         Err(refusal) => println!(rt; "refused {}", refusal.number()),
     }

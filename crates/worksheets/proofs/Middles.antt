@@ -11,7 +11,7 @@ use Rattle.morphology.specs.Calls.{verdict, sheet_by, answered_by}
 use Rattle.morphology.specs.Filters.{opened, closed, points_of}
 use Rattle.morphology.specs.Mid.{HalfwayAt, MidSheet, Between}
 use Rattle.morphology.specs.Order.{UnderAt, UnderSheet}
-use Rattle.morphology.specs.Refusals.{judged, and_then}
+use Rattle.morphology.specs.Refusals.{sized, judged, and_then}
 use Rattle.morphology.specs.declared.call.Filter.TheVariants.{Open}
 use Rattle.morphology.specs.declared.refusal.Refusal.TheVariants.{UnlikeSizes}
 use Rattle.morphology.proofs.Mids.{halfway_between, opened_closed}
@@ -123,5 +123,5 @@ copied s t u false e h = cc
 pub mid_goes : {K : Type 0} (s t : Sheet K) (mask : Option Mask) (n : ℕ) (m : Mask) → Ok m ≡ judged s.width s.height mask n → s.width ≡ t.width → s.height ≡ t.height → judged_sheets s t mask n ≡ Ok m
 mid_goes s t mask n m e ew eh =
     let same : (s.width == t.width && s.height == t.height) ≡ true = grind (arith, nat_tests) in
-    ap (λ v. and_then v (λ n. cond (s.width == t.width && s.height == t.height) (Ok n) (Err (UnlikeSizes s.width s.height t.width t.height)))) (sym e)
-    ∙ ap (λ (b : Bool). cond b (Ok m) (Err (UnlikeSizes s.width s.height t.width t.height))) same
+    ap (λ v. and_then v (λ n. cond (s.width == t.width && s.height == t.height) (Ok n) (Err (UnlikeSizes (sized s.width s.height) (sized t.width t.height))))) (sym e)
+    ∙ ap (λ (b : Bool). cond b (Ok m) (Err (UnlikeSizes (sized s.width s.height) (sized t.width t.height)))) same

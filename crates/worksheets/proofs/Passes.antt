@@ -8,7 +8,7 @@ use Rattle.masks.proofs.CostBounds.{filter_picks_few}
 use Rattle.sheets.specs.Sheet.{Sheet, shown}
 use Rattle.morphology.specs.Calls.{State, filtered, picks, verdict, sheet_by, answered_by, answered, after}
 use Rattle.morphology.specs.Filters.{points_of}
-use Rattle.morphology.specs.Refusals.{fits, by_mask, judged}
+use Rattle.morphology.specs.Refusals.{fits, sized, by_mask, judged}
 use Rattle.morphology.specs.declared.call.Call.TheVariants.{Apply}
 use Rattle.morphology.specs.declared.call.Filter.{Filter}
 use Rattle.morphology.specs.declared.call.Filter.TheVariants.{Erode, Dilate, Open, Close}
@@ -27,7 +27,7 @@ both_true : (a b : Bool) → (a && b) ≡ true → (a ≡ true) × (b ≡ true)
 both_true true b e = (refl, e)
 both_true false b e = absurd (let z : ◌≡◌ {A = ℕ} 0 1 = cc in omega arith)
 
-pub judged_few : (b : Bool) (w h : ℕ) (v : Result Mask Refusal) (m : Mask) → (fits w && fits h) ≡ b → cond b v (Err (WrongSize w h)) ≡ Ok m → filter_picks m.rows w h < 2 ^ 40
+pub judged_few : (b : Bool) (w h : ℕ) (v : Result Mask Refusal) (m : Mask) → (fits w && fits h) ≡ b → cond b v (Err (WrongSize (sized w h))) ≡ Ok m → filter_picks m.rows w h < 2 ^ 40
 judged_few true w h v m e o =
     let s = both_true (fits w) (fits h) e in
     filter_picks_few m.rows w h (fits_few w s.0) (fits_few h s.1)

@@ -35,7 +35,7 @@ where
         let size = self.holder.size();
         let other = second.size();
         if size != other {
-            return Err(Refusal::UnlikeSizes(size.width, size.height, other.width, other.height));
+            return Err(Refusal::UnlikeSizes(size, other));
         }
         let _ = copy_into(&self.holder, second);
         let opening = self.open(table)?;

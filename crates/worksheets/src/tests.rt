@@ -213,7 +213,10 @@ fn a_filter_before_any_lay_is_refused(rt: HostRuntime) {
     assert_eq!(rt; Refusal::NoMask.number(), 10);
     assert_eq!(rt; cells, [Gray(7), Gray(9), Gray(4)]);
     let mut nothing = Worksheet::new(Rows::new(0, &mut cells));
-    assert_eq!(rt; nothing.open(&mut table), Err(Refusal::WrongSize(0, 0)));
+    assert_eq!(rt;
+        nothing.open(&mut table),
+        Err(Refusal::WrongSize(Size::NONE))
+    );
 }
 
 #[test]
@@ -414,7 +417,15 @@ fn a_refused_mid_changes_neither_sheet(rt: HostRuntime) -> Result<(), Fail> {
         sheet.mid(&mut second, &mut table[0..65]),
         Err(Refusal::ShortTable(66, 65))
     );
-    let unlike = Refusal::UnlikeSizes(3, 1, 4, 1);
+    let three = Size {
+        width: 3,
+        height: 1,
+    };
+    let four = Size {
+        width: 4,
+        height: 1,
+    };
+    let unlike = Refusal::UnlikeSizes(three, four);
     assert_eq!(rt; sheet.mid(&mut second, &mut table), Err(unlike));
     assert_eq!(rt; unlike.number(), 12);
     assert_eq!(rt; cells, [Gray(7), Gray(9), Gray(4)]);

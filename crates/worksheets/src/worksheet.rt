@@ -116,6 +116,6 @@ fn unmasked<H: Holder>(holder: &H) -> Refusal
     if filter::can_filter(size) {
         Refusal::NoMask
     } else {
-        Refusal::WrongSize(size.width, size.height)
+        Refusal::WrongSize(size)
     }
 }
