@@ -3,5 +3,4 @@ mod Fronts
 mod Steps
 mod Outcomes
 mod Blends
-mod Closings
 mod Middles

@@ -1,19 +1,20 @@
 -- The mid of a worksheet: opened here, closed there, and blended.
-use Rattle.std.proofs.Common.{◌≡◌, ℕ, ◌*◌, Bool, true, false, cond, ◌&&◌, ◌==◌, if◌then◌else◌, List, length, ℤ, is_some, Some, None, Ok, Err, Option, sym, refl, ap, ◌∙◌, subst, ap₂, arith}
+use Rattle.std.proofs.Common.{◌≡◌, ℕ, Bool, true, false, cond, ◌&&◌, ◌==◌, nat_lt, if◌then◌else◌, List, length, ℤ, is_some, Some, None, Ok, Err, Option, sym, refl, ap, ◌∙◌, subst, ap₂, arith}
 use Rattle.std.specs.Option.{option_map}
 use Rattle.std.proofs.lemmas.Bool.Decides.{nat_tests}
 use Rattle.cells.specs.Lattice.{Lattice}
-use Rattle.masks.specs.Cost.{filter_picks}
+use Rattle.masks.specs.Cost.{table_cells}
 use Rattle.masks.specs.declared.mask.Mask.{Mask}
 use Rattle.masks.specs.declared.point.Point.{Point}
 use Rattle.sheets.specs.Sheet.{Sheet, has, inside, Whole, shown}
-use Rattle.morphology.specs.Calls.{verdict, sheet_by, answered_by}
-use Rattle.morphology.specs.Filters.{opened, closed, points_of}
+use Rattle.morphology.specs.Calls.{filtered, picks, verdict, sheet_by, answered_by}
+use Rattle.morphology.specs.Filters.{opened, closed}
 use Rattle.morphology.specs.Mid.{HalfwayAt, MidSheet, Between}
 use Rattle.morphology.specs.Order.{UnderAt, UnderSheet}
-use Rattle.morphology.specs.Refusals.{sized, judged, and_then}
-use Rattle.morphology.specs.declared.call.Filter.TheVariants.{Open}
-use Rattle.morphology.specs.declared.refusal.Refusal.TheVariants.{UnlikeSizes}
+use Rattle.morphology.specs.Refusals.{fits, sized, by_mask, judged, and_then}
+use Rattle.morphology.specs.declared.call.Filter.{Filter}
+use Rattle.morphology.specs.declared.refusal.Refusal.{Refusal}
+use Rattle.morphology.specs.declared.refusal.Refusal.TheVariants.{WrongSize, ShortTable, UnlikeSizes}
 use Rattle.morphology.proofs.Mids.{halfway_between, opened_closed}
 use Rattle.morphology.proofs.Sheets.{openings}
 use Rattle.worksheets.specs.declared.worksheet.Worksheet.{Worksheet}
@@ -96,23 +97,38 @@ module _ {K C : Type 0} (k : Lattice C) (f : K → C) (level : K → ℤ) (ps : 
         subst (UnderSheet k (shown f t)) V (record { width = B.width ∙ order.width; height = B.height ∙ order.height; cells = λ x y. (at x y).1 }),
       )
 
--- an opening that goes ahead
-module _ {K C S : Type 0} (k : Lattice C) (f : K → C) (sheet : S → Sheet K) (w w1 : Worksheet S) (t t1 : List K) (a : ℕ) (m : Mask) (goes : Ok m ≡ verdict (state f sheet w) (length t))
-    (P : Performed k f sheet Open w w1 t t1 (Ok a)) where
-  after_opening : state f sheet w1 ≡ record { sheet = opened k (points_of m) (shown f (sheet w.holder)); mask = w.mask }
-  after_opening = P.after ∙ ap (λ v. record { sheet = sheet_by k Open v (shown f (sheet w.holder)); mask = w.mask }) (sym goes)
+-- a filter that goes ahead
+module _ {K C S : Type 0} (k : Lattice C) (f : K → C) (sheet : S → Sheet K) (q : Filter) (w w1 : Worksheet S) (t t1 : List K) (a : ℕ) (m : Mask) (goes : Ok m ≡ verdict (state f sheet w) (length t))
+    (P : Performed k f sheet q w w1 t t1 (Ok a)) where
+  after_filter : state f sheet w1 ≡ record { sheet = filtered k q m (shown f (sheet w.holder)); mask = w.mask }
+  after_filter = P.after ∙ ap (λ v. record { sheet = sheet_by k q v (shown f (sheet w.holder)); mask = w.mask }) (sym goes)
 
-  pub opens : shown f (sheet w1.holder) ≡ opened k (points_of m) (shown f (sheet w.holder))
-  opens = ap (λ s. s.sheet) after_opening
+  pub leaves : shown f (sheet w1.holder) ≡ filtered k q m (shown f (sheet w.holder))
+  leaves = ap (λ s. s.sheet) after_filter
 
   pub mask_stays : w1.mask ≡ w.mask
-  mask_stays = ap (λ s. s.mask) after_opening
+  mask_stays = ap (λ s. s.mask) after_filter
 
-  pub opening_picks : a ≡ 2 * filter_picks m.rows (sheet w.holder).width (sheet w.holder).height
-  opening_picks =
-      let q : Ok a ≡ Ok (2 * filter_picks m.rows (sheet w.holder).width (sheet w.holder).height) =
-      P.answer ∙ ap (λ v. answered_by Open v (sheet w.holder).width (sheet w.holder).height) (sym goes) in
+  pub picks_made : a ≡ picks q m (sheet w.holder).width (sheet w.holder).height
+  picks_made =
+      let q : Ok a ≡ Ok (picks q m (sheet w.holder).width (sheet w.holder).height) =
+      P.answer ∙ ap (λ v. answered_by q v (sheet w.holder).width (sheet w.holder).height) (sym goes) in
       cc
+
+-- what it goes ahead under is the mask that lies
+one_mask : (short : Bool) (r : Refusal) (l m : Mask) → Ok m ≡ cond short (Err r) (Ok l) → l ≡ m
+one_mask true r l m e = absurd (let z : ◌≡◌ {A = ℕ} 0 1 = cc in omega arith)
+one_mask false r l m e = cc
+
+goes_by : (fit : Bool) (r : Refusal) (w n : ℕ) (o : Option Mask) (m : Mask) → Ok m ≡ cond fit (by_mask w o n) (Err r) → Ok m ≡ cond fit (by_mask w (Some m) n) (Err r)
+goes_by false r w n o m e = e
+goes_by true r w n None m e = absurd (let z : ◌≡◌ {A = ℕ} 0 1 = cc in omega arith)
+goes_by true r w n (Some l) m e =
+    let same = one_mask (nat_lt n (table_cells l.rows w)) (ShortTable (table_cells l.rows w) n) l m e in
+    subst (λ (i : Mask). Ok m ≡ by_mask w (Some i) n) same e
+
+pub goes_under : (w h n : ℕ) (o : Option Mask) (m : Mask) → Ok m ≡ judged w h o n → Ok m ≡ judged w h (Some m) n
+goes_under w h n o m e = goes_by (fits w && fits h) (WrongSize (sized w h)) w n o m e
 
 -- the copy, where both sheets are of one size
 pub copied : {K : Type 0} (s t u : Sheet K) (b : Bool) → b ≡ true → u ≡ (if b then s else t) → u ≡ s

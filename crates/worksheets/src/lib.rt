@@ -4,6 +4,9 @@
 // A worksheet, and its five calls.
 pub mod worksheet;
 
+// The four filters of a holder's sheet under a mask, told as those of a worksheet on which the mask lies.
+mod masked;
+
 // Lists of calls on one worksheet.
 pub mod run;
 

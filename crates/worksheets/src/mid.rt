@@ -1,18 +1,15 @@
 // Mid: halfway between the opening and the closing of a sheet whose cells have levels. The loops go by number, since the
 // places of a holder are no list.
-ghost use Rattle.std.specs.Prelude.{◌≡◌, ◌*◌, ◌&&◌, length, Some, Ok, ◌==◌, nat_lt};
-ghost use Rattle.masks.specs.Cost.{filter_picks};
+ghost use Rattle.std.specs.Prelude.{◌≡◌, ◌&&◌, length, Ok, ◌==◌, nat_lt};
 ghost use Rattle.masks.specs.declared.mask.Mask.{Mask};
 ghost use Rattle.sheets.specs.Sheet.{inside, shown};
-ghost use Rattle.morphology.specs.Filters.{closed, points_of};
+ghost use Rattle.morphology.specs.Filters.{points_of};
 ghost use Rattle.morphology.specs.Mid.{Between};
-ghost use Rattle.morphology.specs.Refusals.{judged};
 ghost use Rattle.worksheets.specs.Mid.{Blended, judged_sheets, PerformedMid};
 
+use crate::masked::close;
 use crate::worksheet::Worksheet;
-use cells::kind::{Kind, Measured};
-use filters::filter;
-use masks::mask::Mask;
+use cells::kind::Measured;
 use morphology::refusal::Refusal;
 use sheets::copy::copy_into;
 use sheets::holder::Holder;
@@ -43,19 +40,6 @@ where
         blend(&mut self.holder, second);
         Ok(opening + closing)
     }
-}
-
-// Closes the sheet of a holder, where nothing speaks against it.
-fn close<H: Holder>(holder: &mut H, mask: &Mask, table: &mut [H::Cell]) -> Result<u64, Refusal>
-where
-    H::Cell: Kind,
-    requires { judged (H.Holder.sheet holder.old).width (H.Holder.sheet holder.old).height (Some mask.now) (length table.old) ≡ Ok mask.now }
-    ensures answer { result ≡ Ok (2 * filter_picks mask.now.rows (H.Holder.sheet holder.old).width (H.Holder.sheet holder.old).height) }
-    ensures after { shown H.Cell.Kind.means (H.Holder.sheet holder.new) ≡ closed H.Cell.Kind.lattice (points_of mask.now) (shown H.Cell.Kind.means (H.Holder.sheet holder.old)) }
-{
-    let dilated = filter::dilate(holder, mask, table)?;
-    let eroded = filter::erode(holder, mask, table)?;
-    Ok(dilated + eroded)
 }
 
 // Puts the midway of the two cells at each place where both holders have one.

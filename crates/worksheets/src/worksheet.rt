@@ -7,6 +7,7 @@ ghost use Rattle.morphology.specs.declared.call.Filter.TheVariants.{Erode, Dilat
 ghost use Rattle.morphology.specs.declared.call.Call.TheVariants.{Lay};
 ghost use Rattle.worksheets.specs.Performed.{state, Performed};
 
+use crate::masked;
 use cells::kind::Kind;
 use filters::filter;
 use masks::mask::Mask;
@@ -60,7 +61,7 @@ where
         ensures { Performed H.Cell.Kind.lattice H.Cell.Kind.means H.Holder.sheet Erode self.old self.new table.old table.new result }
     {
         let mask = self.laid()?;
-        filter::erode(&mut self.holder, &mask, table)
+        masked::erode(&mut self.holder, &mask, table)
     }
 
     // Dilates the sheet, likewise.
@@ -68,25 +69,23 @@ where
         ensures { Performed H.Cell.Kind.lattice H.Cell.Kind.means H.Holder.sheet Dilate self.old self.new table.old table.new result }
     {
         let mask = self.laid()?;
-        filter::dilate(&mut self.holder, &mask, table)
+        masked::dilate(&mut self.holder, &mask, table)
     }
 
     // Opens the sheet: an erosion, and then a dilation. The answer is the picks of both.
     pub fn open(&mut self, table: &mut [H::Cell]) -> Result<u64, Refusal>
         ensures { Performed H.Cell.Kind.lattice H.Cell.Kind.means H.Holder.sheet Open self.old self.new table.old table.new result }
     {
-        let eroding = self.erode(table)?;
-        let dilating = self.dilate(table)?;
-        Ok(eroding + dilating)
+        let mask = self.laid()?;
+        masked::open(&mut self.holder, &mask, table)
     }
 
     // Closes the sheet: a dilation, and then an erosion. The answer is the picks of both.
     pub fn close(&mut self, table: &mut [H::Cell]) -> Result<u64, Refusal>
         ensures { Performed H.Cell.Kind.lattice H.Cell.Kind.means H.Holder.sheet Close self.old self.new table.old table.new result }
     {
-        let dilated = self.dilate(table)?;
-        let eroded = self.erode(table)?;
-        Ok(dilated + eroded)
+        let mask = self.laid()?;
+        masked::close(&mut self.holder, &mask, table)
     }
 
     // The mask that a filter with a table of so many cells goes ahead under, or why it does not.
@@ -101,10 +100,7 @@ where
     fn laid(&self) -> Result<Mask, Refusal>
         ensures { MatchResult result (λ m. self.now.mask ≡ Some m) (λ r. (n : ℕ) → verdict (state H.Cell.Kind.means H.Holder.sheet self.now) n ≡ Err r) }
     {
-        match self.mask {
-            Some(mask) => Ok(mask),
-            None => Err(unmasked(&self.holder)),
-        }
+        self.mask.ok_or(unmasked(&self.holder))
     }
 }
 
