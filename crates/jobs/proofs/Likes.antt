@@ -128,5 +128,5 @@ module _ {C : Type 0} (k : Lattice C) where
   unfolding at AlikeMask
   performed_alike named kind xs ys f h =
       let p = lines_alike xs ys f None None h tt in
-      ap (λ (ls : List Line). SheetLine kind f.width f.height ∷ [] ++ ls ++ rows kind named (left k xs (at f None)).sheet) p.0
-      ∙ ap (λ (i : Sheet C). SheetLine kind f.width f.height ∷ [] ++ lines k ys (at f None) ++ rows kind named i) p.1
+      ap (λ (ls : List Line). SheetLine kind (sized f.width f.height) ∷ [] ++ ls ++ rows kind named (left k xs (at f None)).sheet) p.0
+      ∙ ap (λ (i : Sheet C). SheetLine kind (sized f.width f.height) ∷ [] ++ lines k ys (at f None) ++ rows kind named i) p.1

@@ -10,6 +10,7 @@ use Rattle.cells.specs.Lattice.{Lattice}
 use Rattle.sheets.specs.Sheet.{Sheet, shown}
 use Rattle.morphology.specs.Calls.{State, new}
 use Rattle.strips.specs.declared.kind.CellKind.{CellKind}
+use Rattle.morphology.specs.Refusals.{sized}
 use Rattle.jobs.specs.Words.{Names}
 use Rattle.jobs.specs.Listings.{word_at, row, rows, lines, left, performed}
 use Rattle.jobs.specs.declared.act.Act.{Act}
@@ -48,9 +49,9 @@ module _ {K C : Type 0} (f : K → C) (g : K → ℕ) (named : C → ℕ) (names
   rows_named kind s = ap (λ (h : ℕ → Line). map h (range_with_len 0 s.height)) (fun_ext (λ y. ap (λ (ws : List ℕ). Cells kind ws) (row_named s y)))
 
   -- the head, the lines of the acts and the rows are the whole
-  pub performed_whole : (k : Lattice C) (kind : CellKind) (xs : List Act) (s t : Sheet K) (end : State C) (head acted all : List Line) → head ≡ SheetLine kind s.width s.height ∷ [] → acted ≡ head ++ lines k xs (new (shown f s)) → all ≡ acted ++ rows kind g t → end ≡ left k xs (new (shown f s)) → shown f t ≡ end.sheet →
+  pub performed_whole : (k : Lattice C) (kind : CellKind) (xs : List Act) (s t : Sheet K) (end : State C) (head acted all : List Line) → head ≡ SheetLine kind (sized s.width s.height) ∷ [] → acted ≡ head ++ lines k xs (new (shown f s)) → all ≡ acted ++ rows kind g t → end ≡ left k xs (new (shown f s)) → shown f t ≡ end.sheet →
       all ≡ performed k named kind xs (shown f s)
   performed_whole k kind xs s t end head acted all h a l e p =
       l
       ∙ ap (λ (ls : List Line). ls ++ rows kind g t) (a ∙ ap (λ (ls : List Line). ls ++ lines k xs (new (shown f s))) h)
-      ∙ ap (λ (ls : List Line). SheetLine kind s.width s.height ∷ [] ++ lines k xs (new (shown f s)) ++ ls) (rows_named kind t ∙ ap (rows kind named) (p ∙ ap (λ (i : State C). i.sheet) e))
+      ∙ ap (λ (ls : List Line). SheetLine kind (sized s.width s.height) ∷ [] ++ lines k xs (new (shown f s)) ++ ls) (rows_named kind t ∙ ap (rows kind named) (p ∙ ap (λ (i : State C). i.sheet) e))

@@ -20,6 +20,7 @@ use Rattle.masks.specs.Rows.{points}
 use Rattle.masks.specs.Chords.{chords}
 use Rattle.sheets.specs.Sheet.{Sheet, shown}
 use Rattle.morphology.specs.Calls.{State, new, after, answered}
+use Rattle.morphology.specs.Refusals.{sized}
 use Rattle.morphology.specs.declared.call.Call.TheVariants as calls
 use Rattle.morphology.specs.declared.refusal.Refusal.{Refusal}
 use Rattle.strips.specs.Jobs.{Job}
@@ -75,7 +76,7 @@ rows kind word s = map (λ y. Cells kind (row word s y)) (range_with_len 0 s.hei
 -- the size of the sheet, then the acts in order, then the rows of what they leave
 abbrev pub performed : {C : Type 0} → Lattice C → (C → ℕ) → CellKind → List Act → Sheet C → List Line
 performed k word kind xs f =
-    SheetLine kind f.width f.height ∷ [] ++ lines k xs (new f) ++ rows kind word (left k xs (new f)).sheet
+    SheetLine kind (sized f.width f.height) ∷ [] ++ lines k xs (new f) ++ rows kind word (left k xs (new f)).sheet
 
 -- ls is the listing of the acts xs on a new worksheet of the sheet s of stored values, which f reads and the words g name
 abbrev pub Lists : {K C : Type 0} → Lattice C → (K → C) → (K → ℕ) → CellKind → List Act → Sheet K → List Line → Type 0

@@ -51,7 +51,7 @@ refused_text name f = name ++ why_text f
 
 abbrev pub line_text : Line → List ℕ
 line_text (Refused f) = refused_text (layer_name (layer f)) f
-line_text (Sheet k w h) = codes "sheet " ++ kind_name k ++ codes " " ++ decimal w ++ codes " " ++ decimal h
+line_text (Sheet k s) = codes "sheet " ++ kind_name k ++ codes " " ++ decimal s.width ++ codes " " ++ decimal s.height
 line_text (Mask p c) = codes "mask " ++ decimal p ++ codes " chords " ++ decimal c
 line_text (Call q (Ok n)) = filter_name q ++ codes " " ++ decimal n
 line_text (Call q (Err f)) = refused_text (filter_name q) f

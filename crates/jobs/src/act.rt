@@ -22,6 +22,14 @@ pub enum Act {
     Filter(Filter),
 }
 
+// A run of points, the first of which is that word of the strip.
+#[derive(Drop)]
+struct PointRun<'a> {
+    first: usize,
+    points: &'a [Point],
+    ghost short: { first + length points.now < 2 ^ 63 },
+}
+
 // The acts of the job's steps.
 pub(crate) fn acts_of(heap: Global, job: &JobStrip<'_>) -> Result<Vec<Act>, AllocError>
     ensures { IfOk result (λ v. Alike v.items (job_acts (job_of job.now))) }
@@ -37,7 +45,8 @@ pub(crate) fn acts_of(heap: Global, job: &JobStrip<'_>) -> Result<Vec<Act>, Allo
         match job.step(i) {
             Some(Step::Point { u, v }) => run.push(point_of(u, v))?,
             Some(Step::Call(filter)) => {
-                close(&mut acts, first, run.as_slice())?;
+                let points = run.as_slice();
+                close(&mut acts, &PointRun { first, points })?;
                 acts.push(Act::Filter(filter))?;
                 run.clear();
                 first = start + i + 1;
@@ -45,27 +54,27 @@ pub(crate) fn acts_of(heap: Global, job: &JobStrip<'_>) -> Result<Vec<Act>, Allo
             None => {}
         }
     }
-    close(&mut acts, first, run.as_slice())?;
+    let points = run.as_slice();
+    close(&mut acts, &PointRun { first, points })?;
     Ok(acts)
 }
 
 // Puts what comes of a run behind the acts that are there, if the run has points.
-fn close(acts: &mut Vec<Act>, first: usize, run: &[Point]) -> Result<(), AllocError>
-    requires { first + length run.now < 2 ^ 63 }
-    ensures { IfOk result (λ _. Closes first run.now acts.old.items acts.new.items) }
+fn close(acts: &mut Vec<Act>, run: &PointRun<'_>) -> Result<(), AllocError>
+    ensures { IfOk result (λ _. Closes run.now.first run.now.points.now acts.old.items acts.new.items) }
 {
-    if !run.is_empty() {
-        acts.push(Act::Run(mask_of_run(first, run)))?;
+    if !run.points.is_empty() {
+        acts.push(Act::Run(mask_of_run(run)))?;
     }
     Ok(())
 }
 
-// The mask of a run of points, the first of which is that word.
-fn mask_of_run(first: usize, run: &[Point]) -> Result<Mask, JobFault>
-    requires { first + length run.now < 2 ^ 63 }
-    ensures { AlikeAct (Run result) (act_of first run.now) }
+// The mask of a run of points.
+fn mask_of_run(run: &PointRun<'_>) -> Result<Mask, JobFault>
+    ensures { AlikeAct (Run result) (act_of run.now.first run.now.points.now) }
 {
-    let mask = Mask::from_points(run).map_err(|fault| blamed(first, fault))?;
+    let first = run.first;
+    let mask = Mask::from_points(run.points).map_err(|fault| blamed(first, fault))?;
     Ok(mask)
 }
 

@@ -3,6 +3,7 @@ ghost use Rattle.std.specs.Prelude.{◌≡◌};
 
 use crate::fault::JobFault;
 use morphology::call::Filter;
+use sheets::holder::Size;
 use std::marker::Model;
 use strips::kind::CellKind;
 
@@ -41,10 +42,10 @@ impl Row {
 pub enum Line {
     // The strip is refused, or no mask can be made of a run of points.
     Refused(JobFault),
-    // The kind, the width and the height of the topmost sheet.
-    Sheet(CellKind, usize, usize),
-    // A mask is laid: its points and its chords.
-    Mask(usize, usize),
+    // The kind and the size of the topmost sheet.
+    Sheet { kind: CellKind, size: Size },
+    // A mask is laid: how many points and chords it has.
+    Mask { points: usize, chords: usize },
     // A filter was called: its picks, or why it did not go ahead.
     Call(Filter, Result<u64, JobFault>),
     // A row of the topmost sheet.

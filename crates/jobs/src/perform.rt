@@ -21,8 +21,23 @@ use std::alloc::{AllocError, Global};
 use strips::kind::CellKind;
 use worksheets::worksheet::Worksheet;
 
-// The cells of the table that each filter is called with.
-const TABLE: usize = 16_384;
+// How many cells the table has that each filter is called with.
+const TABLE_CELLS: usize = 16_384;
+
+// That table.
+#[derive(Drop)]
+struct Table<C> {
+    cells: Vec<C>,
+    ghost whole: { length cells.items ≡ 16384 },
+}
+
+impl<K: Kind> Table<K> {
+    // A table of least cells.
+    fn new(heap: Global) -> Result<Table<K>, AllocError> {
+        let cells = vec![in heap; K::least(); TABLE_CELLS]?;
+        Ok(Table { cells })
+    }
+}
 
 // The listing of the acts on a new worksheet of the pile.
 pub(crate) fn perform<H>(
@@ -39,9 +54,9 @@ where
     let mut lines = Vec::new(heap);
     let mut worksheet = Worksheet::new(pile);
     let size = worksheet.holder().size();
-    lines.push(Line::Sheet(kind, size.width, size.height))?;
-    let mut table = vec![in heap; H::Cell::least(); TABLE]?;
-    make_all(&mut worksheet, acts, table.as_mut_slice(), &mut lines)?;
+    lines.push(Line::Sheet { kind, size })?;
+    let mut table = Table::new(heap)?;
+    make_all(&mut worksheet, acts, &mut table, &mut lines)?;
     add_rows(heap, kind, worksheet.holder(), &mut lines)?;
     Ok(lines)
 }
@@ -50,13 +65,12 @@ where
 fn make_all<H>(
     worksheet: &mut Worksheet<H>,
     acts: &[Act],
-    table: &mut [H::Cell],
+    table: &mut Table<H::Cell>,
     so_far: &mut Vec<Line>,
 ) -> Result<(), AllocError>
 where
     H: Holder,
     H::Cell: Listed,
-    requires { length table.old ≡ 16384 }
     ensures lines { IfOk result (λ _. so_far.new.items ≡ so_far.old.items ++ lines H.Cell.Kind.lattice acts.now (state H.Cell.Kind.means H.Holder.sheet worksheet.old)) }
     ensures after { IfOk result (λ _. state H.Cell.Kind.means H.Holder.sheet worksheet.new ≡ left H.Cell.Kind.lattice acts.now (state H.Cell.Kind.means H.Holder.sheet worksheet.old)) }
 {
@@ -68,11 +82,10 @@ where
 }
 
 // Does one act, and answers its line.
-fn make<H>(worksheet: &mut Worksheet<H>, act: Act, table: &mut [H::Cell]) -> Line
+fn make<H>(worksheet: &mut Worksheet<H>, act: Act, table: &mut Table<H::Cell>) -> Line
 where
     H: Holder,
     H::Cell: Listed,
-    requires { length table.old ≡ 16384 }
     ensures line { result ≡ line_of act (state H.Cell.Kind.means H.Holder.sheet worksheet.old) }
     ensures after { state H.Cell.Kind.means H.Holder.sheet worksheet.new ≡ left_by H.Cell.Kind.lattice act (state H.Cell.Kind.means H.Holder.sheet worksheet.old) }
 {
@@ -82,7 +95,10 @@ where
             mask_line(&mask)
         }
         Act::Run(Err(fault)) => Line::Refused(fault),
-        Act::Filter(filter) => Line::Call(filter, call(worksheet, filter, table)),
+        Act::Filter(filter) => {
+            let answer = call(worksheet, filter, table.cells.as_mut_slice());
+            Line::Call(filter, answer)
+        }
     }
 }
 
@@ -91,7 +107,10 @@ fn mask_line(mask: &Mask) -> Line
     ensures { result ≡ Line.Mask (length (points mask.now.rows 31)) (length (chords mask.now.rows 31)) }
 {
     let chords = ChordList::of(mask);
-    Line::Mask(mask.count(), chords.as_slice().len())
+    Line::Mask {
+        points: mask.count(),
+        chords: chords.as_slice().len(),
+    }
 }
 
 // Calls the filter, and answers its picks or why it does not go ahead.

@@ -31,8 +31,10 @@ impl fmt::Display for Line {
                 write!(f, "{layer}")?;
                 show_why(*fault, f)
             }
-            Line::Sheet(kind, width, height) => write!(f, "sheet {kind} {width} {height}"),
-            Line::Mask(points, chords) => write!(f, "mask {points} chords {chords}"),
+            Line::Sheet { kind, size } => {
+                write!(f, "sheet {kind} {} {}", size.width, size.height)
+            }
+            Line::Mask { points, chords } => write!(f, "mask {points} chords {chords}"),
             Line::Call(filter, Ok(picks)) => write!(f, "{filter} {picks}"),
             Line::Call(filter, Err(fault)) => {
                 write!(f, "{filter}")?;

@@ -1,5 +1,6 @@
 // A strip that is being read, word by word.
-ghost use Rattle.std.specs.Prelude.{◌≡◌, ◌^◌, ◌<◌, length, IfOk};
+ghost use Rattle.std.specs.Prelude.{◌≡◌, ◌^◌, ◌<◌, length, IfOk, ◌==◌};
+ghost use Rattle.strips.specs.Words.{kind};
 ghost use Rattle.strips.specs.Reading.{word_due, item_due, shape_of, shape_due, count_of, count_due, cell_due, raws_due, frame_due, begins, window_due, is_step, step_due, steps_due, ended};
 ghost use Rattle.strips.specs.Views.{left, Gives, Passes};
 
@@ -106,10 +107,7 @@ impl Strip<'_> {
     fn begins(&self) -> bool
         ensures { result ≡ begins (left self.now).words }
     {
-        match word_at(self.words, self.place) {
-            Some(word) => word / 0x1000_0000 == 3,
-            None => false,
-        }
+        word_at(self.words, self.place).is_some_and(is_corner)
     }
 
     // Takes the window, if a corner stands there.
@@ -154,6 +152,13 @@ impl Strip<'_> {
             Err(StripFault::OutOfOrder(self.place))
         }
     }
+}
+
+// Whether the word has the kind of a corner.
+fn is_corner(word: u32) -> bool
+    ensures { result ≡ (kind word == 3) }
+{
+    word / 0x1000_0000 == 3
 }
 
 // The head's kind, width and height.

@@ -95,8 +95,8 @@ take_min xs m =
       | inr h ↦ take_all (min (length xs) m) xs (omega arith) ∙ sym (take_all m xs h)
     ]
 
-pub front_all : (n : ℕ) (calls : List Call) (m i c : ℕ) → c ≡ min (length calls) m → c ≤ i → i ≤ c → front n calls i ≡ made n m calls
-front_all n calls m i c e p q = ap (map (within n)) (ap (λ (j : ℕ). take j calls) (omega arith) ∙ take_min calls m)
+pub front_all : (n : ℕ) (calls : List Call) (m i c : ℕ) → c ≡ min (length calls) m → length (take c calls) ≤ i → front n (take c calls) i ≡ made n m calls
+front_all n calls m i c e p = ap (map (within n)) (take_all i (take c calls) p ∙ ap (λ (j : ℕ). take j calls) e ∙ take_min calls m)
 
 pub made_long : (n : ℕ) (calls : List Call) (m : ℕ) → length (made n m calls) ≡ min (length calls) m
 made_long n calls m = length-map (take m calls) (within n) ∙ length-take m calls ∙ omega arith

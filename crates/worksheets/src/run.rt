@@ -26,8 +26,9 @@ where
         ensures four_sheets { FourSheets H.Cell.Kind.lattice }
     {
         let count = calls.len().min(told.len());
-        for i in 0..count {
-            told[i] = self.call(&calls[i], table);
+        // The answers are written by index, since nothing is known of a list behind a zip with its iter_mut.
+        for (i, call) in calls[0..count].iter().enumerate() {
+            told[i] = self.call(call, table);
         }
         count
     }

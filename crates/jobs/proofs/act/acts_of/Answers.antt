@@ -30,7 +30,7 @@ loop-i-preserved c =
           sym c.step.ensures ∙ w.in-Some-Call.is ∙ ap (λ (s : Step). Some s) w.in-Some-Call.field-0-is in
           let empty : c.match-step.run.items ≡ [] = ap (λ v. v.items) w.run-is ∙ w.clear.ensures.items in
           let pushed : c.match-step.acts.items ≡ w.close.new.acts.items ++ Filter w.in-Some-Call.filter ∷ [] = ap (λ v. v.items) w.acts-is ∙ w.in_ok-push-in-Some-Call.ensures.items in
-          let closing : Closes c.loop-i.first c.loop-i.run.items c.loop-i.acts.items w.close.new.acts.items = subst (λ (ps : List Point). Closes c.loop-i.first ps c.loop-i.acts.items w.close.new.acts.items) w.as_slice.ensures.value w.in_ok-close-in-Some-Call.ensures in
+          let closing : Closes c.loop-i.first c.loop-i.run.items c.loop-i.acts.items w.close.new.acts.items = subst (λ (ps : List Point). Closes c.loop-i.first ps c.loop-i.acts.items w.close.new.acts.items) w.as_slice-points.ensures.value w.in_ok-close-in-Some-Call.ensures in
           record {
             leads = call_leads ss c.loop-i.i c.loop-i.first c.match-step.first w.in-Some-Call.filter c.loop-i.run.items c.match-step.run.items c.loop-i.acts.items w.close.new.acts.items c.match-step.acts.items all at closing pushed (omega (arith, w.first-is, c.loop-i.invariant.words)) empty c.loop-i.invariant.leads;
             words = omega (arith, w.first-is, ap length empty);
@@ -42,6 +42,6 @@ pub returns : goal.returns
 returns c =
     let ss = (job_of c.args.job.now).steps in
     let all = acts (first_step (job_of c.args.job.now)) [] ss in
-    let closing : Closes c.loop-i.first c.loop-i.run.items c.loop-i.acts.items c.close-2.new.acts.items = subst (λ (ps : List Point). Closes c.loop-i.first ps c.loop-i.acts.items c.close-2.new.acts.items) c.as_slice-2.ensures.value c.in_ok-close.ensures in
+    let closing : Closes c.loop-i.first c.loop-i.run.items c.loop-i.acts.items c.close-2.new.acts.items = subst (λ (ps : List Point). Closes c.loop-i.first ps c.loop-i.acts.items c.close-2.new.acts.items) c.as_slice-points-2.ensures.value c.in_ok-close.ensures in
     let long : length ss ≤ c.loop-i.i = omega (arith, c.steps-i-end.ensures.answer, c.loop-i-test.false) in
     end_leads ss c.loop-i.i c.loop-i.first c.loop-i.run.items c.loop-i.acts.items c.close-2.new.acts.items all long closing c.loop-i.invariant.leads

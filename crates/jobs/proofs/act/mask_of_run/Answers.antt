@@ -19,4 +19,4 @@ pub returns : goal.returns
 returns c =
     let made = was_made c.from_points.result c.in_ok-mask.mask c.in_ok-mask.ensures.cases in
     let drawn = rw made at c.from_points.ensures.answer in
-    laid_alike c.args.first c.args.run.now c.in_ok-mask.mask drawn.0 drawn.1
+    laid_alike c.args.run.now.first c.args.run.now.points.now c.in_ok-mask.mask drawn.0 drawn.1

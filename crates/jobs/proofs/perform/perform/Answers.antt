@@ -2,6 +2,7 @@
 use Rattle.std.proofs.Common.{◌≡◌, ℕ, List, [], ◌∷◌, ◌++◌, refl, ap, ap₂, ◌∙◌}
 use Rattle.sheets.specs.Sheet.{shown}
 use Rattle.morphology.specs.Calls.{new}
+use Rattle.morphology.specs.Refusals.{sized}
 use Rattle.worksheets.specs.Performed.{state}
 use Rattle.jobs.specs.Listings.{lines, left, rows}
 use Rattle.jobs.specs.declared.line.Line.{Line}
@@ -16,9 +17,9 @@ returns g c = λ named names.
     let sheet = g.H.Holder.sheet in
     let s = sheet c.args.pile in
     let xs = c.args.acts.now in
-    let size : SheetLine c.args.kind c.size-size.result.width c.size-size.result.height ≡ SheetLine c.args.kind s.width s.height =
-    ap₂ (λ (w h : ℕ). SheetLine c.args.kind w h) (c.size-size.ensures.width ∙ ap (λ v. (sheet v).width) (c.holder.ensures ∙ c.new-worksheet.ensures.holder)) (c.size-size.ensures.height ∙ ap (λ v. (sheet v).height) (c.holder.ensures ∙ c.new-worksheet.ensures.holder)) in
-    let head : c.push.new.self.items ≡ SheetLine c.args.kind s.width s.height ∷ [] =
+    let size : SheetLine c.args.kind c.size-size.result ≡ SheetLine c.args.kind (sized s.width s.height) =
+    ap₂ (λ (w h : ℕ). SheetLine c.args.kind (sized w h)) (c.size-size.ensures.width ∙ ap (λ v. (sheet v).width) (c.holder.ensures ∙ c.new-worksheet.ensures.holder)) (c.size-size.ensures.height ∙ ap (λ v. (sheet v).height) (c.holder.ensures ∙ c.new-worksheet.ensures.holder)) in
+    let head : c.push.new.self.items ≡ SheetLine c.args.kind (sized s.width s.height) ∷ [] =
     c.in_ok-push.ensures.items ∙ ap₂ (λ (ls : List Line) (l : Line). ls ++ l ∷ []) c.new-lines.ensures.items size in
     let acted : c.make_all.new.so_far.items ≡ c.push.new.self.items ++ lines k xs (new (shown f s)) =
     c.in_ok-make_all.ensures.lines ∙ ap (λ t. c.push.new.self.items ++ lines k xs t) c.new-worksheet.ensures.shows in

@@ -1,11 +1,15 @@
 -- The next word is the first of those that are left.
-use Rattle.std.proofs.Common.{refl, sym}
-use Rattle.strips.specs.Words.{numbers}
+use Rattle.std.proofs.Common.{◌≡◌, ℕ, Bool, false, List, drop, Option, Some, None, MatchOption, sym}
+use Rattle.std.specs.Prelude.{◌==◌}
+use Rattle.std.specs.List.{slice_get}
+use Rattle.strips.specs.Words.{kind, numbers}
+use Rattle.strips.specs.Reading.{begins}
 use Rattle.strips.proofs.Fronts.{drop_first, drop_none}
 use Rattle.strips.proofs.strip.Strip.begins.Goals as goal
 
-pub returns-in-Some : goal.returns-in-Some
-returns-in-Some c = rw (drop_first c.args.self.now.place (numbers c.args.self.now.words.now) c.in-Some.word (sym c.in-Some.ensures.answer)) refl
+by_first : (i : ℕ) (ws : List ℕ) (o : Option ℕ) (b : Bool) → o ≡ slice_get ws i → MatchOption o (b ≡ false) (λ w. b ≡ (kind w == 3)) → b ≡ begins (drop i ws)
+by_first i ws (Some w) b e h = rw (drop_first i ws w (sym e)) h
+by_first i ws None b e h = rw (drop_none i ws (sym e)) h
 
-pub returns-in-None : goal.returns-in-None
-returns-in-None c = rw (drop_none c.args.self.now.place (numbers c.args.self.now.words.now) (sym c.in-None.ensures.answer)) refl
+pub returns : goal.returns
+returns c = by_first c.args.self.now.place (numbers c.args.self.now.words.now) c.word_at.result c.is_some_and.result c.word_at.ensures.answer c.is_some_and.ensures
