@@ -5,12 +5,11 @@ use Rattle.std.specs.List.{AllByRecursion}
 use Rattle.std.proofs.lemmas.Bool.{eq-eqb}
 use Rattle.std.proofs.lemmas.List.{take_at}
 use Rattle.std.proofs.Math.Nat.{mul-le-mul}
-use Rattle.strips.specs.Kinds.{kind_number, kind_of, is_cell}
+use Rattle.strips.specs.Kinds.{is_cell}
 use Rattle.strips.specs.Items.{filter_number, item_word, Fits}
 use Rattle.strips.specs.Jobs.{Job, step_item, corner, extent, window_words, step_words, step_of, IsRaw, Sound, job_words}
-use Rattle.strips.specs.Reading.{Left, from, ◌>>=◌, word_due, item_due, shape_by, shape_of, shape_due, count_of, count_due, cell_due, raws_due, corner_of, extent_of, frame_due, begins, window_due, one_more, steps_from, steps_due, ended, job_from}
+use Rattle.strips.specs.Reading.{Left, from, ◌>>=◌, word_due, item_due, shape_of, shape_due, count_of, count_due, cell_due, raws_due, corner_of, extent_of, frame_due, begins, window_due, one_more, steps_from, steps_due, ended, job_from}
 use Rattle.strips.specs.declared.kind.CellKind.{CellKind}
-use Rattle.strips.specs.declared.kind.CellKind.TheVariants.{Gray, Height, Flags, Return}
 use Rattle.strips.specs.declared.item.Item.{Item}
 use Rattle.strips.specs.declared.item.Item.TheVariants.{Head, Cells, Point, Call, End}
 use Rattle.strips.specs.declared.parts.Shape.{Shape}
@@ -38,17 +37,10 @@ part_again {A} f i x ws y fits made =
 
 -- ---- the head and the count
 
-kind_again : (k : CellKind) → kind_of (kind_number k) ≡ Some k
-kind_again Gray = refl
-kind_again Height = refl
-kind_again Flags = refl
-kind_again Return = refl
-
-pub shape_again : (s : Shape) (ws : List ℕ) → Fits (Head (kind_number s.kind) s.width s.height) → shape_due (from 0 (item_word (Head (kind_number s.kind) s.width s.height) ∷ ws)) ≡ Ok (s, from 1 ws)
+pub shape_again : (s : Shape) (ws : List ℕ) → Fits (Head (Ok s.kind) s.width s.height) → shape_due (from 0 (item_word (Head (Ok s.kind) s.width s.height) ∷ ws)) ≡ Ok (s, from 1 ws)
 unfolding shape_due
 shape_again s ws fits =
-    part_again (shape_of 0) 0 (Head (kind_number s.kind) s.width s.height) ws s fits
-    (ap (λ (o : Option CellKind). shape_by 0 o s.width s.height) (kind_again s.kind))
+    part_again (shape_of 0) 0 (Head (Ok s.kind) s.width s.height) ws s fits refl
 
 pub count_again : (n i : ℕ) (ws : List ℕ) → n < 2 ^ 28 → count_due n (from i (item_word (Cells n) ∷ ws)) ≡ Ok (n, from (i + 1) ws)
 unfolding count_due

@@ -5,7 +5,7 @@ use Rattle.std.specs.List.{AllByRecursion}
 use Rattle.std.proofs.lemmas.List.{take_at, append-nil}
 use Rattle.std.proofs.lemmas.Bool.{le-ltb}
 use Rattle.strips.specs.Words.{words, over}
-use Rattle.strips.specs.Kinds.{kind_number, is_cell}
+use Rattle.strips.specs.Kinds.{is_cell}
 use Rattle.strips.specs.Items.{item_of, item_word, Fits}
 use Rattle.strips.specs.Faults.{number, told_word}
 use Rattle.strips.specs.Jobs.{Job, step_item, extent, window_words, step_words, step_of, IsRaw, Sound, job_words}
@@ -127,7 +127,7 @@ abbrev assembled : Shape → List ℕ → Option Frame → List Step → Job
 assembled s rs f ss = record { kind = s.kind; width = s.width; height = s.height; raws = rs; window = f; steps = ss }
 
 abbrev pub head_word : Shape → ℕ
-head_word s = item_word (Head (kind_number s.kind) s.width s.height)
+head_word s = item_word (Head (Ok s.kind) s.width s.height)
 
 abbrev pub count_word : Shape → ℕ
 count_word s = item_word (Cells (s.width * s.height))
@@ -140,7 +140,7 @@ smallest = record { kind = Gray; width = 0; height = 0; raws = []; window = None
 
 at_head : (ws : List ℕ) → Begins 0 ws
 unfolding smallest
-at_head ws = begun 0 ws [] ws (job_words smallest) smallest (record { head = (lit< tt, lit< tt, lit< tt); count = refl; raws = tt; window = tt; steps = tt }) refl refl refl
+at_head ws = begun 0 ws [] ws (job_words smallest) smallest (record { head = ((lit< tt, refl), lit< tt, lit< tt); count = refl; raws = tt; window = tt; steps = tt }) refl refl refl
 
 at_count : (ws : List ℕ) (s : Shape) (m : Left) → TheHead ws s m → Begins 1 ws
 unfolding job_words
@@ -225,7 +225,7 @@ at_raws ws s left1 left2 f t count two r =
 -- what was passed up to the window
 pub record Passed (ws : List ℕ) (s : Shape) (rs : List ℕ) (m : Left) : Type 0 where
   pub front : ws ≡ (head_word s ∷ count_word s ∷ rs) ++ m.words
-  pub fits : Fits (Head (kind_number s.kind) s.width s.height)
+  pub fits : Fits (Head (Ok s.kind) s.width s.height)
   pub count : length rs ≡ s.width * s.height
   pub raws : AllByRecursion (IsRaw s.kind) rs
   pub place : m.place ≡ 2 + length rs

@@ -6,7 +6,6 @@ use Rattle.std.proofs.lemmas.List.{take_at, take-append-drop}
 use Rattle.std.proofs.lemmas.Bool.{le-ltb, lt-ltb, ltb-true, ltb-false, le-leb, ne_eqb}
 use Rattle.std.proofs.Math.Bool.{and-false}
 use Rattle.strips.specs.Words.{words, over}
-use Rattle.strips.specs.Kinds.{kind_number, kind_of}
 use Rattle.strips.specs.Items.{item_of, item_word, Fits}
 use Rattle.strips.specs.Faults.{number, told_word}
 use Rattle.strips.specs.Jobs.{Job, window_words, step_words, Sound, job_words}
@@ -15,6 +14,7 @@ use Rattle.strips.specs.Views.{Reads}
 use Rattle.strips.specs.Grounds.{cells_of, announced, is_raw, in_place, by_item, by_word, Whole, Numbered}
 use Rattle.strips.specs.Laws.{TellsGround}
 use Rattle.strips.specs.declared.kind.CellKind.{CellKind}
+use Rattle.strips.specs.declared.kind.NoSuchKind.{NoSuchKind}
 use Rattle.strips.specs.declared.item.Item.{Item}
 use Rattle.strips.specs.declared.item.Item.TheVariants.{Head, Cells, Corner, Extent, Point, Call, End}
 use Rattle.strips.specs.declared.parts.Shape.{Shape}
@@ -65,8 +65,8 @@ raw_within ws n i e le lt =
     ∙ ap (λ (b : Bool). b && nat_lt i (2 + n)) (le-leb 2 i le)
     ∙ lt-ltb i (2 + n) lt
 
-announced_head : (ws : List ℕ) (s : Shape) (rest : List ℕ) → ws ≡ head_word s ∷ rest → Fits (Head (kind_number s.kind) s.width s.height) → announced ws ≡ s.width * s.height
-announced_head ws s rest e fits = ap announced e ∙ ap cells_of (item_again (Head (kind_number s.kind) s.width s.height) fits)
+announced_head : (ws : List ℕ) (s : Shape) (rest : List ℕ) → ws ≡ head_word s ∷ rest → Fits (Head (Ok s.kind) s.width s.height) → announced ws ≡ s.width * s.height
+announced_head ws s rest e fits = ap announced e ∙ ap cells_of (item_again (Head (Ok s.kind) s.width s.height) fits)
 
 -- ---- the number by what a word says
 
@@ -76,13 +76,13 @@ silent {A} i f e = sym (ap number (err_is {A = A} (NoWord i) f e))
 misplaced : {A : Type 0} (i : ℕ) (f : StripFault) → ◌≡◌ {A = Result A StripFault} (Err (OutOfOrder i)) (Err f) → number f ≡ 4
 misplaced {A} i f e = sym (ap number (err_is {A = A} (OutOfOrder i) f e))
 
-no_kind_number : (o : Option CellKind) (w h : ℕ) (f : StripFault) → shape_by 0 o w h ≡ Err f → number f ≡ 5
-no_kind_number (Some k) w h f e = absurd cc
-no_kind_number None w h f e = sym (ap number (err_is {A = Shape} (NoKind 0) f e))
+no_kind_number : (k : Result CellKind NoSuchKind) (w h : ℕ) (f : StripFault) → shape_by 0 k w h ≡ Err f → number f ≡ 5
+no_kind_number (Ok k) w h f e = absurd cc
+no_kind_number (Err n) w h f e = sym (ap number (err_is {A = Shape} (NoKind 0) f e))
 
 shape_number : (o : Option Item) (f : StripFault) → (said 0 o >>= shape_of 0) ≡ Err f → number f ≡ by_item 0 o
 shape_number None f e = silent {A = Shape} 0 f e
-shape_number (Some (Head n w h)) f e = no_kind_number (kind_of n) w h f e
+shape_number (Some (Head k w h)) f e = no_kind_number k w h f e
 shape_number (Some (Cells n)) f e = misplaced {A = Shape} 0 f e
 shape_number (Some (Corner c r)) f e = misplaced {A = Shape} 0 f e
 shape_number (Some (Extent w h)) f e = misplaced {A = Shape} 0 f e
@@ -277,14 +277,14 @@ parts_again j us t =
     let ws3 = window_words j.window ++ ws4 in
     let ws2 = j.raws ++ ws3 in
     let ws1 = item_word (Cells n) ∷ ws2 in
-    let ws = item_word (Head (kind_number j.kind) j.width j.height) ∷ ws1 in
+    let ws = item_word (Head (Ok j.kind) j.width j.height) ∷ ws1 in
     let p3 = 2 + length j.raws in
     let p4 = p3 + length (window_words j.window) in
     let p5 = p4 + length j.steps + 1 in
     let a = append_assoc (step_words j.steps) end_words us in
     let b = append_assoc (window_words j.window) (step_words j.steps ++ end_words) us ∙ ap (λ (v : List ℕ). window_words j.window ++ v) a in
     let c = append_assoc j.raws (window_words j.window ++ (step_words j.steps ++ end_words)) us ∙ ap (λ (v : List ℕ). j.raws ++ v) b in
-    let same : job_words j ++ us ≡ ws = ap (λ (v : List ℕ). item_word (Head (kind_number j.kind) j.width j.height) ∷ item_word (Cells n) ∷ v) c in
+    let same : job_words j ++ us ≡ ws = ap (λ (v : List ℕ). item_word (Head (Ok j.kind) j.width j.height) ∷ item_word (Cells n) ∷ v) c in
     let few : n < 2 ^ 28 = count_below j.width j.height t.head.1 t.head.2 in
     let raws : raws_due j.kind n (from 2 ws2) ≡ Ok (from p3 ws3) = ap (λ (k : ℕ). raws_due j.kind k (from 2 ws2)) (sym t.count) ∙ raws_again j.kind j.raws ws3 2 p3 t.raws refl in
     let passed = parts_5 ws (s, from 1 ws1) (n, from 2 ws2) (from p3 ws3) (j.window, from p4 ws4) (Ok (length j.steps, from p5 us))

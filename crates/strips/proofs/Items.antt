@@ -1,18 +1,21 @@
 -- What a word says is said by that word alone.
 use Rattle.std.proofs.Common.{◌≡◌, ℕ, ◌+◌, ◌*◌, ◌/◌, ◌%◌, ◌^◌, ◌<◌, Bool, true, false, cond, Option, Some, None, ◌⊎◌, inl, inr, refl, sym, ap, subst, ◌∙◌, arith, lit<}
-use Rattle.std.specs.Prelude.{◌==◌, nat_lt}
+use Rattle.std.specs.Prelude.{ok_or, ◌==◌, nat_lt}
 use Rattle.std.specs.Option.{option_map}
 use Rattle.std.proofs.lemmas.Bool.{eqb-true, ltb-true, lt-ltb}
 use Rattle.std.proofs.lemmas.Option.{cond_some, same_Some}
 use Rattle.morphology.specs.declared.call.Filter.{Filter}
 use Rattle.morphology.specs.declared.call.Filter.TheVariants.{Erode, Dilate, Open, Close}
+use Rattle.strips.specs.Kinds.{kind_number, kind_of, given, given_number}
+use Rattle.strips.specs.declared.kind.CellKind.{CellKind}
+use Rattle.strips.specs.declared.kind.CellKind.TheVariants.{Gray, Height, Flags, Return}
 use Rattle.strips.specs.Items.{filter_number, filter_of, head_item, pair, corner_item, extent_item, point_item, end_item, item_by, item_of, item_word, Fits}
 use Rattle.strips.specs.declared.item.Item.{Item}
 use Rattle.strips.specs.declared.item.Item.TheVariants.{Head, Cells, Corner, Extent, Point, Call, End}
 
 -- x is what the body b says in a word of the kind k
 abbrev Says : ℕ → ℕ → Item → Type 0
-Says k b (Head n w h) = (k ≡ 1) × (n ≡ b / 2 ^ 24) × (w ≡ b / 2 ^ 12 % 2 ^ 12) × (h ≡ b % 2 ^ 12)
+Says k b (Head n w h) = (k ≡ 1) × (n ≡ given (b / 2 ^ 24)) × (w ≡ b / 2 ^ 12 % 2 ^ 12) × (h ≡ b % 2 ^ 12)
 Says k b (Cells n) = (k ≡ 2) × (n ≡ b)
 Says k b (Corner c r) = (k ≡ 3) × (b < 2 ^ 24) × (c ≡ b / 2 ^ 12) × (r ≡ b % 2 ^ 12)
 Says k b (Extent w h) = (k ≡ 4) × (b < 2 ^ 24) × (w ≡ b / 2 ^ 12) × (h ≡ b % 2 ^ 12)
@@ -118,7 +121,7 @@ says_3 k b x e =
 says : (k b : ℕ) (x : Item) → item_by k b ≡ Some x → Says k b x
 says k b x e =
     elim (chosen (k == 1) (head_item b) (cond (k == 2) (Some (Cells b)) (by_3 k b)) (Some x) e) [
-      | inl p ↦ at k 1 b x p.0 (subst (Says 1 b) (same_Some (Head (b / 2 ^ 24) (b / 2 ^ 12 % 2 ^ 12) (b % 2 ^ 12)) x p.1) (refl, refl, refl, refl))
+      | inl p ↦ at k 1 b x p.0 (subst (Says 1 b) (same_Some (Head (given (b / 2 ^ 24)) (b / 2 ^ 12 % 2 ^ 12) (b % 2 ^ 12)) x p.1) (refl, refl, refl, refl))
       | inr p ↦ elim (chosen (k == 2) (Some (Cells b)) (by_3 k b) (Some x) p.1) [
         | inl p ↦ at k 2 b x p.0 (subst (Says 2 b) (same_Some (Cells b) x p.1) (refl, refl))
         | inr p ↦ says_3 k b x p.1
@@ -131,8 +134,34 @@ filter_below Dilate = lit< tt
 filter_below Open = lit< tt
 filter_below Close = lit< tt
 
+-- the kind with a number has that number
+number_of_kind : (n : ℕ) (k : CellKind) → kind_of n ≡ Some k → kind_number k ≡ n
+number_of_kind n k e =
+    elim (chosen (n == 1) (Some Gray) (cond (n == 2) (Some Height) (cond (n == 3) (Some Flags) (cond (n == 4) (Some Return) None))) (Some k) e) [
+      | inl p ↦ ap kind_number (sym (same_Some Gray k p.1)) ∙ sym (eqb-true n 1 p.0)
+      | inr p ↦ elim (chosen (n == 2) (Some Height) (cond (n == 3) (Some Flags) (cond (n == 4) (Some Return) None)) (Some k) p.1) [
+        | inl p ↦ ap kind_number (sym (same_Some Height k p.1)) ∙ sym (eqb-true n 2 p.0)
+        | inr p ↦ elim (chosen (n == 3) (Some Flags) (cond (n == 4) (Some Return) None) (Some k) p.1) [
+          | inl p ↦ ap kind_number (sym (same_Some Flags k p.1)) ∙ sym (eqb-true n 3 p.0)
+          | inr p ↦ elim (chosen (n == 4) (Some Return) None (Some k) p.1) [
+            | inl p ↦ ap kind_number (sym (same_Some Return k p.1)) ∙ sym (eqb-true n 4 p.0)
+            | inr p ↦ absurd (let q = p.1 in cc)
+          ]
+        ]
+      ]
+    ]
+
+by_kind : (n : ℕ) (o : Option CellKind) → kind_of n ≡ o → given_number (ok_or o (record { 0 = n })) ≡ n
+by_kind n (Some k) e = number_of_kind n k e
+by_kind n None e = refl
+
+number_of_given : (n : ℕ) → given_number (given n) ≡ n
+number_of_given n = by_kind n (kind_of n) refl
+
 word_says : (w : ℕ) (x : Item) → Says (w / 2 ^ 28) (w % 2 ^ 28) x → (item_word x ≡ w) × Fits x
-word_says w (Head n v h) s = (omega (arith, s.0, s.1, s.2, s.3), (omega (arith, s.1), omega (arith, s.2), omega (arith, s.3)))
+word_says w (Head k v h) s =
+    let m : given_number k ≡ w % 2 ^ 28 / 2 ^ 24 = ap given_number s.1 ∙ number_of_given (w % 2 ^ 28 / 2 ^ 24) in
+    (omega (arith, s.0, m, s.2, s.3), ((omega (arith, m), ap given m ∙ sym s.1), omega (arith, s.2), omega (arith, s.3)))
 word_says w (Cells n) s = (omega (arith, s.0, s.1), omega (arith, s.1))
 word_says w (Corner c r) s = (omega (arith, s.0, s.1, s.2, s.3), (omega (arith, s.1, s.2), omega (arith, s.3)))
 word_says w (Extent v h) s = (omega (arith, s.0, s.1, s.2, s.3), (omega (arith, s.1, s.2), omega (arith, s.3)))
@@ -171,14 +200,14 @@ pair_again c r hc hr =
 -- the word that says something says it
 pub item_again : (x : Item) → Fits x → item_of (item_word x) ≡ Some x
 item_again (Head k w h) fits =
-    let b = k * 2 ^ 24 + w * 2 ^ 12 + h in
-    let f0 = fits.0 in
+    let b = given_number k * 2 ^ 24 + w * 2 ^ 12 + h in
+    let f0 = fits.0.0 in
     let f1 = fits.1 in
     let f2 = fits.2 in
-    let top : b / 2 ^ 24 ≡ k = omega arith in
+    let top : b / 2 ^ 24 ≡ given_number k = omega arith in
     let middle : b / 2 ^ 12 % 2 ^ 12 ≡ w = omega arith in
     let low : b % 2 ^ 12 ≡ h = omega arith in
-    by_parts (item_word (Head k w h)) 1 b (omega arith) (omega arith) ∙ rw (top, middle, low) refl
+    by_parts (item_word (Head k w h)) 1 b (omega arith) (omega arith) ∙ rw (top, fits.0.1, middle, low) refl
 item_again (Cells n) fits = by_parts (item_word (Cells n)) 2 n refl fits
 item_again (Corner c r) fits = by_parts (item_word (Corner c r)) 3 (c * 2 ^ 12 + r) (omega arith) (omega (arith, fits.0, fits.1)) ∙ ap (option_map (λ p. Corner p.0 p.1)) (pair_again c r fits.0 fits.1)
 item_again (Extent w h) fits = by_parts (item_word (Extent w h)) 4 (w * 2 ^ 12 + h) (omega arith) (omega (arith, fits.0, fits.1)) ∙ ap (option_map (λ p. Extent p.0 p.1)) (pair_again w h fits.0 fits.1)

@@ -1,10 +1,8 @@
 -- The width and the height of a head have twelve bits each.
 use Rattle.std.proofs.Common.{◌≡◌, ℕ, ◌+◌, ◌^◌, ◌<◌, List, [], ◌∷◌, Option, Some, None, Result, Ok, Err, refl, sym, ap, subst}
 use Rattle.std.specs.Prelude.{IfOk}
-use Rattle.strips.specs.Kinds.{kind_of}
 use Rattle.strips.specs.Items.{item_of, Fits}
-use Rattle.strips.specs.Reading.{Left, from, ◌>>=◌, said, word_due, item_due, shape_by, shape_of}
-use Rattle.strips.specs.declared.kind.CellKind.{CellKind}
+use Rattle.strips.specs.Reading.{Left, from, ◌>>=◌, said, word_due, item_due, shape_of}
 use Rattle.strips.specs.declared.item.Item.{Item}
 use Rattle.strips.specs.declared.item.Item.TheVariants.{Head, Cells, Corner, Extent, Point, Call, End}
 use Rattle.strips.specs.declared.parts.Shape.{Shape}
@@ -35,15 +33,10 @@ item_first i (w ∷ ws) x m e =
     let p = ok_is both (x, m) b.2 in
     subst (λ (y : Item × Left). (v : ℕ) × (w ∷ ws ≡ v ∷ y.1.words) × (y.1.place ≡ i + 1) × (item_of v ≡ Some y.0)) p (w, refl, refl, said_is i (item_of w) b.0 b.1)
 
-shape_kept : (i : ℕ) (o : Option CellKind) (w h : ℕ) (s : Shape) → shape_by i o w h ≡ Ok s → (k : CellKind) × (o ≡ Some k) × (record { kind = k; width = w; height = h } ≡ s)
-shape_kept i (Some k) w h s e = (k, refl, cc)
-shape_kept i None w h s e = absurd cc
-
 -- an item that is a head with a kind of cell
-pub shape_is : (i : ℕ) (x : Item) (s : Shape) → shape_of i x ≡ Ok s → (n : ℕ) × (x ≡ Head n s.width s.height) × (kind_of n ≡ Some s.kind)
-shape_is i (Head n w h) s e =
-    let k = shape_kept i (kind_of n) w h s e in
-    subst (λ (t : Shape). (m : ℕ) × (Head n w h ≡ Head m t.width t.height) × (kind_of m ≡ Some t.kind)) k.2 (n, refl, k.1)
+pub shape_is : (i : ℕ) (x : Item) (s : Shape) → shape_of i x ≡ Ok s → x ≡ Head (Ok s.kind) s.width s.height
+shape_is i (Head (Ok k) w h) s e = ap (λ (t : Shape). Head (Ok t.kind) t.width t.height) (ok_is (record { kind = k; width = w; height = h }) s e)
+shape_is i (Head (Err n) w h) s e = absurd cc
 shape_is i (Cells n) s e = absurd cc
 shape_is i (Corner c r) s e = absurd cc
 shape_is i (Extent w h) s e = absurd cc
@@ -57,6 +50,6 @@ shape_within l m i x (Ok s) e h =
     let t = item_first l.place l.words x m e in
     let k = shape_is i x s (sym h) in
     let fits = (item_takes t.0 x t.3).1 in
-    let head = subst Fits k.1 fits in
+    let head = subst Fits k fits in
     (head.1, head.2)
 shape_within l m i x (Err f) e h = tt

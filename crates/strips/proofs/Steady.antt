@@ -2,11 +2,12 @@
 use Rattle.std.proofs.Common.{◌≡◌, ℕ, zero, suc, ◌+◌, ◌*◌, Bool, true, false, cond, List, [], ◌∷◌, Option, Some, None, Result, Ok, Err, ◌⊎◌, inl, inr, refl, sym, ap, subst, ◌∙◌, arith}
 use Rattle.std.specs.Prelude.{◌==◌}
 use Rattle.strips.specs.Words.{kind}
-use Rattle.strips.specs.Kinds.{kind_of, is_cell}
+use Rattle.strips.specs.Kinds.{is_cell}
 use Rattle.strips.specs.Items.{item_of}
 use Rattle.strips.specs.Faults.{told_word}
 use Rattle.strips.specs.Reading.{Left, from, ◌>>=◌, said, word_due, item_due, shape_by, shape_of, shape_due, count_of, count_due, cell_of, cell_due, raws_due, corner_of, extent_of, frame_due, begins, window_due, is_step, one_more, steps_from, steps_due}
 use Rattle.strips.specs.declared.kind.CellKind.{CellKind}
+use Rattle.strips.specs.declared.kind.NoSuchKind.{NoSuchKind}
 use Rattle.strips.specs.declared.item.Item.{Item}
 use Rattle.strips.specs.declared.item.Item.TheVariants.{Head, Cells, Corner, Extent, Point, Call, End}
 use Rattle.strips.specs.declared.parts.Shape.{Shape}
@@ -196,12 +197,12 @@ item_single h i (w ∷ ws) = item_told h i (item_of w) (from (i + 1) ws)
 order_here : {A : Type 0} (i : ℕ) (f : StripFault) → ◌≡◌ {A = Result A StripFault} (Err (OutOfOrder i)) (Err f) → told_word f ≡ i
 order_here {A} i f e = sym (ap told_word (err_is {A = A} (OutOfOrder i) f e))
 
-kind_here : (i : ℕ) (o : Option CellKind) (w h : ℕ) (f : StripFault) → shape_by i o w h ≡ Err f → told_word f ≡ i
-kind_here i (Some k) w h f e = absurd cc
-kind_here i None w h f e = sym (ap told_word (err_is {A = Shape} (NoKind i) f e))
+kind_here : (i : ℕ) (k : Result CellKind NoSuchKind) (w h : ℕ) (f : StripFault) → shape_by i k w h ≡ Err f → told_word f ≡ i
+kind_here i (Ok k) w h f e = absurd cc
+kind_here i (Err n) w h f e = sym (ap told_word (err_is {A = Shape} (NoKind i) f e))
 
 shape_here : (i : ℕ) (x : Item) (f : StripFault) → shape_of i x ≡ Err f → told_word f ≡ i
-shape_here i (Head n w h) f e = kind_here i (kind_of n) w h f e
+shape_here i (Head k w h) f e = kind_here i k w h f e
 shape_here i (Cells n) f e = order_here {A = Shape} i f e
 shape_here i (Corner c r) f e = order_here {A = Shape} i f e
 shape_here i (Extent w h) f e = order_here {A = Shape} i f e

@@ -3,13 +3,11 @@ use Rattle.std.proofs.Common.{◌≡◌, ℕ, zero, suc, ◌+◌, ◌^◌, ◌<�
 use Rattle.std.specs.Prelude.{◌==◌, IfSome}
 use Rattle.std.specs.List.{AllByRecursion}
 use Rattle.std.proofs.lemmas.Bool.{eqb-true}
-use Rattle.std.proofs.lemmas.Option.{same_Some}
-use Rattle.strips.specs.Kinds.{kind_number, kind_of, is_cell}
+use Rattle.strips.specs.Kinds.{is_cell}
 use Rattle.strips.specs.Items.{item_of, item_word, Fits}
 use Rattle.strips.specs.Jobs.{step_item, corner, extent, window_words, step_words, step_of, IsRaw}
 use Rattle.strips.specs.Reading.{Left, from, ◌>>=◌, said, word_due, item_due, shape_of, shape_due, count_of, count_due, cell_due, raws_due, corner_of, extent_of, frame_due, begins, window_due, is_step, one_more, steps_from}
 use Rattle.strips.specs.declared.kind.CellKind.{CellKind}
-use Rattle.strips.specs.declared.kind.CellKind.TheVariants.{Gray, Height, Flags, Return}
 use Rattle.strips.specs.declared.item.Item.{Item}
 use Rattle.strips.specs.declared.item.Item.TheVariants.{Head, Cells, Corner, Extent, Point, Call, End}
 use Rattle.strips.specs.declared.parts.Shape.{Shape}
@@ -54,35 +52,16 @@ part_takes {A} f i ws y m e =
 
 -- ---- the head
 
--- the kind with a number has that number
-number_of_kind : (n : ℕ) (k : CellKind) → kind_of n ≡ Some k → kind_number k ≡ n
-number_of_kind n k e =
-    elim (chosen (n == 1) (Some Gray) (cond (n == 2) (Some Height) (cond (n == 3) (Some Flags) (cond (n == 4) (Some Return) None))) (Some k) e) [
-      | inl p ↦ ap kind_number (sym (same_Some Gray k p.1)) ∙ sym (eqb-true n 1 p.0)
-      | inr p ↦ elim (chosen (n == 2) (Some Height) (cond (n == 3) (Some Flags) (cond (n == 4) (Some Return) None)) (Some k) p.1) [
-        | inl p ↦ ap kind_number (sym (same_Some Height k p.1)) ∙ sym (eqb-true n 2 p.0)
-        | inr p ↦ elim (chosen (n == 3) (Some Flags) (cond (n == 4) (Some Return) None) (Some k) p.1) [
-          | inl p ↦ ap kind_number (sym (same_Some Flags k p.1)) ∙ sym (eqb-true n 3 p.0)
-          | inr p ↦ elim (chosen (n == 4) (Some Return) None (Some k) p.1) [
-            | inl p ↦ ap kind_number (sym (same_Some Return k p.1)) ∙ sym (eqb-true n 4 p.0)
-            | inr p ↦ absurd (let q = p.1 in cc)
-          ]
-        ]
-      ]
-    ]
-
 pub record TheHead (ws : List ℕ) (s : Shape) (m : Left) : Type 0 where
-  pub front : ws ≡ item_word (Head (kind_number s.kind) s.width s.height) ∷ m.words
-  pub fits : Fits (Head (kind_number s.kind) s.width s.height)
+  pub front : ws ≡ item_word (Head (Ok s.kind) s.width s.height) ∷ m.words
+  pub fits : Fits (Head (Ok s.kind) s.width s.height)
   pub place : m.place ≡ 1
 
 pub shape_takes : (ws : List ℕ) (s : Shape) (m : Left) → shape_due (from 0 ws) ≡ Ok (s, m) → TheHead ws s m
 unfolding shape_due
 shape_takes ws s m e =
     let p = part_takes (shape_of 0) 0 ws s m e in
-    let k = shape_is 0 p.item s p.made in
-    let n : kind_number s.kind ≡ k.0 = number_of_kind k.0 s.kind k.2 in
-    let same : p.item ≡ Head (kind_number s.kind) s.width s.height = k.1 ∙ ap (λ (j : ℕ). Head j s.width s.height) (sym n) in
+    let same : p.item ≡ Head (Ok s.kind) s.width s.height = shape_is 0 p.item s p.made in
     record { front = p.front ∙ ap (λ (x : Item). item_word x ∷ m.words) same; fits = subst Fits same p.fits; place = p.place }
 
 -- ---- the cells word

@@ -2,7 +2,6 @@
 use Rattle.std.proofs.Common.{◌≡◌, ℕ, ◌*◌, inl, inr, List, [], ◌∷◌, ◌++◌, map, take, Option, Result, Ok, Err, refl, sym, ap, subst, ◌∙◌}
 use Rattle.std.specs.Prelude.{◌==◌}
 use Rattle.std.proofs.lemmas.Bool.{eqb-true}
-use Rattle.strips.specs.Kinds.{kind_number}
 use Rattle.strips.specs.Items.{item_word}
 use Rattle.strips.specs.Jobs.{Job, window_words, step_words, step_of, Sound, job_words}
 use Rattle.strips.specs.Reading.{Left, from, ◌>>=◌, shape_due, count_due, raws_due, window_due, steps_due, ended, job_from}
@@ -36,7 +35,7 @@ made s c cells f k steps = record { kind = s.kind; width = s.width; height = s.h
 
 -- the words of the parts, behind each other
 joined : (s : Shape) (c k : ℕ) (f : Option Frame) (ws ws1 ws2 ws3 ws4 ws5 : List ℕ)
-    → ws ≡ item_word (Head (kind_number s.kind) s.width s.height) ∷ ws1
+    → ws ≡ item_word (Head (Ok s.kind) s.width s.height) ∷ ws1
     → ws1 ≡ item_word (Cells (s.width * s.height)) ∷ ws2
     → ws2 ≡ take c ws2 ++ ws3
     → ws3 ≡ window_words f ++ ws4
@@ -50,7 +49,7 @@ joined s c k f ws ws1 ws2 ws3 ws4 ws5 h0 h1 h2 h3 h4 h5 =
     let e3 : window_words f ++ (ss ++ item_word End ∷ []) ≡ ws3 = ap (λ (v : List ℕ). window_words f ++ v) e4 ∙ sym h3 in
     let e2 : take c ws2 ++ (window_words f ++ (ss ++ item_word End ∷ [])) ≡ ws2 = ap (λ (v : List ℕ). take c ws2 ++ v) e3 ∙ sym h2 in
     let e1 : item_word (Cells (s.width * s.height)) ∷ (take c ws2 ++ (window_words f ++ (ss ++ item_word End ∷ []))) ≡ ws1 = ap (λ (v : List ℕ). item_word (Cells (s.width * s.height)) ∷ v) e2 ∙ sym h1 in
-    ap (λ (v : List ℕ). item_word (Head (kind_number s.kind) s.width s.height) ∷ v) e1 ∙ sym h0
+    ap (λ (v : List ℕ). item_word (Head (Ok s.kind) s.width s.height) ∷ v) e1 ∙ sym h0
 
 of_job : (n : ℕ) (ws : List ℕ) (j k : Job) → j ≡ k → TheJob n ws j → TheJob n ws k
 of_job n ws j k e t = subst (TheJob n ws) e t

@@ -8,7 +8,7 @@ unfolding job_words
 worked = record {
   proper = record {
     sound = record {
-      head = (lit< tt, lit< tt, lit< tt);
+      head = ((lit< tt, refl), lit< tt, lit< tt);
       count = refl;
       raws = ((lit< tt, refl), ((lit< tt, refl), ((lit< tt, refl), tt)));
       window = tt;

@@ -5,11 +5,14 @@
 --     item_of w          what the word w says; nothing where its kind is not 1 to 7, its call not 1 to 4 or an unused bit set
 --     item_word x        the word that says x
 --     Fits x             the values of x lie in their fields
-use Rattle.std.specs.Prelude.{ℕ, ◌+◌, ◌*◌, ◌/◌, ◌%◌, ◌^◌, ◌<◌, cond, Some, None, Option, ◌==◌, nat_lt}
+use Rattle.std.specs.Prelude.{◌≡◌, ℕ, ◌+◌, ◌*◌, ◌/◌, ◌%◌, ◌^◌, ◌<◌, cond, Some, None, Option, Result, ◌==◌, nat_lt}
 use Rattle.std.specs.Option.{option_map}
 use Rattle.morphology.specs.declared.call.Filter.{Filter}
 use Rattle.morphology.specs.declared.call.Filter.TheVariants.{Erode, Dilate, Open, Close}
 use Rattle.strips.specs.Words.{kind, body}
+use Rattle.strips.specs.Kinds.{given, given_number}
+use Rattle.strips.specs.declared.kind.CellKind.{CellKind}
+use Rattle.strips.specs.declared.kind.NoSuchKind.{NoSuchKind}
 use Rattle.strips.specs.declared.item.Item.{Item}
 use Rattle.strips.specs.declared.item.Item.TheVariants.{Head, Cells, Corner, Extent, Point, Call, End}
 
@@ -24,7 +27,7 @@ filter_of n = cond (n == 1) (Some Erode) (cond (n == 2) (Some Dilate) (cond (n =
 
 -- bits 27 to 24 the kind of cell, 23 to 12 the width, 11 to 0 the height
 abbrev pub head_item : ℕ → Option Item
-head_item b = Some (Head (b / 2 ^ 24) (b / 2 ^ 12 % 2 ^ 12) (b % 2 ^ 12))
+head_item b = Some (Head (given (b / 2 ^ 24)) (b / 2 ^ 12 % 2 ^ 12) (b % 2 ^ 12))
 
 -- bits 23 to 12, and 11 to 0
 abbrev pub pair : ℕ → Option (ℕ × ℕ)
@@ -60,7 +63,7 @@ unfoldable pub item_of : ℕ → Option Item
 item_of w = item_by (kind w) (body w)
 
 abbrev pub item_word : Item → ℕ
-item_word (Head k w h) = 1 * 2 ^ 28 + k * 2 ^ 24 + w * 2 ^ 12 + h
+item_word (Head k w h) = 1 * 2 ^ 28 + given_number k * 2 ^ 24 + w * 2 ^ 12 + h
 item_word (Cells n) = 2 * 2 ^ 28 + n
 item_word (Corner c r) = 3 * 2 ^ 28 + c * 2 ^ 12 + r
 item_word (Extent w h) = 4 * 2 ^ 28 + w * 2 ^ 12 + h
@@ -68,8 +71,12 @@ item_word (Point u v) = 5 * 2 ^ 28 + u * 2 ^ 5 + v
 item_word (Call q) = 6 * 2 ^ 28 + filter_number q
 item_word End = 7 * 2 ^ 28
 
+-- the kind of cell is given by a number of four bits
+abbrev pub IsGiven : Result CellKind NoSuchKind → Type 0
+IsGiven k = (given_number k < 2 ^ 4) × (given (given_number k) ≡ k)
+
 abbrev pub Fits : Item → Type 0
-Fits (Head k w h) = (k < 2 ^ 4) × (w < 2 ^ 12) × (h < 2 ^ 12)
+Fits (Head k w h) = IsGiven k × (w < 2 ^ 12) × (h < 2 ^ 12)
 Fits (Cells n) = n < 2 ^ 28
 Fits (Corner c r) = (c < 2 ^ 12) × (r < 2 ^ 12)
 Fits (Extent w h) = (w < 2 ^ 12) × (h < 2 ^ 12)

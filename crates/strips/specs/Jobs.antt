@@ -7,11 +7,11 @@
 --     point_of u v       the point of a mask that a step's fields mean
 --     Sound j            the words of j say what j is
 --     Proper j           j has a strip
-use Rattle.std.specs.Prelude.{◌≡◌, ℕ, ◌+◌, ◌*◌, ◌^◌, ◌<◌, ◌≤◌, true, List, [], ◌∷◌, ◌++◌, length, map, Some, None, Option, IfSome, cond, nat_lt, pos, ◌-ℤ◌}
+use Rattle.std.specs.Prelude.{◌≡◌, ℕ, ◌+◌, ◌*◌, ◌^◌, ◌<◌, ◌≤◌, true, List, [], ◌∷◌, ◌++◌, length, map, Some, None, Ok, Option, IfSome, cond, nat_lt, pos, ◌-ℤ◌}
 use Rattle.std.specs.List.{flat_map, AllByRecursion}
 use Rattle.masks.specs.declared.point.Point.{Point}
 use Rattle.strips.specs.Words.{word_bytes}
-use Rattle.strips.specs.Kinds.{kind_number, is_cell}
+use Rattle.strips.specs.Kinds.{is_cell}
 use Rattle.strips.specs.Items.{item_of, item_word, Fits}
 use Rattle.strips.specs.declared.kind.CellKind.{CellKind}
 use Rattle.strips.specs.declared.item.Item.{Item}
@@ -59,7 +59,7 @@ abbrev pub step_words : List Step → List ℕ
 step_words ss = map (λ s. item_word (step_item s)) ss
 
 abbrev pub head : Job → Item
-head j = Head (kind_number j.kind) j.width j.height
+head j = Head (Ok j.kind) j.width j.height
 
 -- head, cells and the raw words, the window, the steps, the end
 unfoldable pub job_words : Job → List ℕ

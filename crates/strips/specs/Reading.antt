@@ -16,10 +16,11 @@
 --     reading bs         the job that the bytes bs are the strip of, or the refusal
 use Rattle.std.specs.Prelude.{ℕ, zero, suc, ◌+◌, ◌*◌, Bool, true, false, cond, ◌&&◌, List, [], ◌∷◌, length, map, take, Some, None, Option, Ok, Err, Result, ◌==◌, nat_lt}
 use Rattle.strips.specs.Words.{kind, words, over}
-use Rattle.strips.specs.Kinds.{kind_of, is_cell}
+use Rattle.strips.specs.Kinds.{is_cell}
 use Rattle.strips.specs.Items.{item_of}
 use Rattle.strips.specs.Jobs.{Job, step_of}
 use Rattle.strips.specs.declared.kind.CellKind.{CellKind}
+use Rattle.strips.specs.declared.kind.NoSuchKind.{NoSuchKind}
 use Rattle.strips.specs.declared.item.Item.{Item}
 use Rattle.strips.specs.declared.item.Item.TheVariants.{Head, Cells, Corner, Extent, Point, Call, End}
 use Rattle.strips.specs.declared.fault.StripFault.{StripFault}
@@ -59,12 +60,12 @@ item_due l = do
   Ok (x, w.1)
 
 -- 4: the word is no head; 5: it has the number of no kind of cell
-abbrev pub shape_by : ℕ → Option CellKind → ℕ → ℕ → Result Shape StripFault
-shape_by i (Some k) w h = Ok (record { kind = k; width = w; height = h })
-shape_by i None w h = Err (NoKind i)
+abbrev pub shape_by : ℕ → Result CellKind NoSuchKind → ℕ → ℕ → Result Shape StripFault
+shape_by i (Ok k) w h = Ok (record { kind = k; width = w; height = h })
+shape_by i (Err n) w h = Err (NoKind i)
 
 abbrev pub shape_of : ℕ → Item → Result Shape StripFault
-shape_of i (Head n w h) = shape_by i (kind_of n) w h
+shape_of i (Head k w h) = shape_by i k w h
 shape_of i _ = Err (OutOfOrder i)
 
 unfoldable pub shape_due : Left → Result (Shape × Left) StripFault

@@ -4,21 +4,35 @@ ghost use Rattle.std.specs.Option.{option_map};
 ghost use Rattle.strips.specs.Items.{filter_of, head_item, pair, point_item, end_item, item_by, item_of};
 ghost use Rattle.strips.specs.declared.item.Item.TheVariants.{Call};
 
+use crate::kind::{CellKind, NoSuchKind};
 use morphology::call::Filter;
 
 // What a word says, by its kind.
 #[derive(Clone, Copy, PartialEq, Eq, Debug)]
 pub enum Item {
-    // The number of a kind of cell, and the size of the sheet.
-    Head { kind: u8, width: u32, height: u32 },
+    // The kind of cell, or its number where no kind has it, and the size of the sheet.
+    Head {
+        kind: Result<CellKind, NoSuchKind>,
+        width: u32,
+        height: u32,
+    },
     // So many cell words follow.
     Cells(u32),
     // Where a window begins.
-    Corner { column: u32, row: u32 },
+    Corner {
+        column: u32,
+        row: u32,
+    },
     // The size of the window.
-    Extent { width: u32, height: u32 },
+    Extent {
+        width: u32,
+        height: u32,
+    },
     // A point of a mask, its u and its v counted from -15.
-    Point { u: u8, v: u8 },
+    Point {
+        u: u8,
+        v: u8,
+    },
     // A filter under the mask.
     Call(Filter),
     // Nothing follows.
@@ -63,7 +77,7 @@ fn head(body: u32) -> Item
     ensures { Some result ≡ head_item body }
 {
     Item::Head {
-        kind: (body / 0x100_0000) as u8,
+        kind: CellKind::try_from((body / 0x100_0000) as u8),
         width: body / 0x1000 % 0x1000,
         height: body % 0x1000,
     }

@@ -27,7 +27,7 @@ impl Strip<'_> {
         Ok(word)
     }
 
-    // Takes what the next word says.
+    // Takes what the next word says. Its place is told apart from it, as in the definitions, where it belongs to what was left.
     #[tactic(auto, unfolding(crate::specs::Reading::item_due))]
     fn item(&mut self) -> Result<Item, StripFault>
         ensures { Gives item_due self.old self.new result }
@@ -173,7 +173,7 @@ fn shape_of(at: usize, item: Item) -> Result<Shape, StripFault>
     else {
         return Err(StripFault::OutOfOrder(at));
     };
-    let kind = CellKind::try_from(kind).map_err(|_| StripFault::NoKind(at))?;
+    let kind = kind.map_err(|_| StripFault::NoKind(at))?;
     Ok(Shape {
         kind,
         width,

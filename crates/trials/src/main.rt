@@ -12,6 +12,7 @@ use std::io::{BufRead, BufReader};
 
 fn main(rt: HostRuntime) -> anyhow::Result<()> {
     let alloc = rt.alloc();
+    // The strips are counted by hand, since a line that is blank or a remark has no number.
     let mut strips: u64 = 0;
     for line in BufReader::new(alloc, rt.reader())?.lines(alloc) {
         let text = line?;
