@@ -1,6 +1,5 @@
 -- The topmost sheet of a job, on which its filters work.
 --     turned k s         the sheet s, south-up where its kind is height
---     asked f            the rectangle of a frame
 --     framed f s         the part of s that a window shows, or s where there is no window
 --     topmost k w f cs   the sheet of the rows of cs, w wide, so turned and framed
 --     pile j             the topmost of a job, of raw words
@@ -9,8 +8,7 @@ use Rattle.sheets.specs.Sheet.{Sheet}
 use Rattle.sheets.specs.Rows.{whole_rows}
 use Rattle.sheets.specs.SouthUp.{flipped}
 use Rattle.sheets.specs.Part.{part}
-use Rattle.sheets.specs.declared.window.Rectangle.{Rectangle}
-use Rattle.strips.specs.Jobs.{Job}
+use Rattle.strips.specs.Jobs.{Job, asked}
 use Rattle.strips.specs.declared.kind.CellKind.{CellKind}
 use Rattle.strips.specs.declared.kind.CellKind.TheVariants.{Gray, Height, Flags, Return}
 use Rattle.strips.specs.declared.parts.Frame.{Frame}
@@ -21,10 +19,6 @@ turned Gray s = s
 turned Height s = flipped s
 turned Flags s = s
 turned Return s = s
-
--- the columns and rows from its corner on
-abbrev pub asked : Frame → Rectangle
-asked f = record { left = f.column; top = f.row; size = record { width = f.width; height = f.height } }
 
 abbrev pub framed : {C : Type 0} → Option Frame → Sheet C → Sheet C
 framed None s = s

@@ -18,7 +18,7 @@ use cells::gray::Gray;
 use cells::height::Height;
 use cells::kind::Kind;
 use cells::words::WordForm;
-use sheets::holder::{Holder, Size};
+use sheets::holder::Holder;
 use sheets::rows::Rows;
 use sheets::south_up::SouthUp;
 use sheets::window::{Rectangle, Window};
@@ -123,14 +123,7 @@ where
     let kind = job.kind();
     match job.window() {
         Some(frame) => {
-            let asked = Rectangle {
-                left: frame.column as usize,
-                top: frame.row as usize,
-                size: Size {
-                    width: frame.width as usize,
-                    height: frame.height as usize,
-                },
-            };
+            let asked = Rectangle::from(frame);
             perform(heap, kind, Window::new(pile, asked), acts)
         }
         None => perform(heap, kind, pile, acts),

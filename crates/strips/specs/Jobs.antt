@@ -4,12 +4,14 @@
 --     layout j           the bytes of its strip
 --     step_of w          the step that a word is
 --     first_step j       the word of the first step
+--     asked f            the rectangle that a window asks for, from its corner on
 --     point_of u v       the point of a mask that a step's fields mean
 --     Sound j            the words of j say what j is
 --     Proper j           j has a strip
 use Rattle.std.specs.Prelude.{◌≡◌, ℕ, ◌+◌, ◌*◌, ◌^◌, ◌<◌, ◌≤◌, true, List, [], ◌∷◌, ◌++◌, length, map, Some, None, Ok, Option, IfSome, cond, nat_lt, pos, ◌-ℤ◌}
 use Rattle.std.specs.List.{flat_map, AllByRecursion}
 use Rattle.masks.specs.declared.point.Point.{Point}
+use Rattle.sheets.specs.declared.window.Rectangle.{Rectangle}
 use Rattle.strips.specs.Words.{word_bytes}
 use Rattle.strips.specs.Kinds.{is_cell}
 use Rattle.strips.specs.Items.{item_of, item_word, Fits}
@@ -77,6 +79,9 @@ step_place s n i = cond (nat_lt i n) (Some (s + i)) None
 -- the number of the word after head, cells, raw words and window
 abbrev pub first_step : Job → ℕ
 first_step j = 2 + length j.raws + length (window_words j.window)
+
+abbrev pub asked : Frame → Rectangle
+asked f = record { left = f.column; top = f.row; size = record { width = f.width; height = f.height } }
 
 -- the offset that a field of a point means
 abbrev pub point_of : ℕ → ℕ → Point

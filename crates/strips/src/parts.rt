@@ -1,10 +1,12 @@
 // The parts of a job.
 ghost use Rattle.std.specs.Prelude.{◌≡◌};
-ghost use Rattle.strips.specs.Jobs.{point_of};
+ghost use Rattle.strips.specs.Jobs.{asked, point_of};
 
 use crate::kind::CellKind;
 use masks::point::Point;
 use morphology::call::Filter;
+use sheets::holder::Size;
+use sheets::window::Rectangle;
 
 // What a head says of the sheet.
 #[derive(Clone, Copy, PartialEq, Eq, Debug)]
@@ -21,6 +23,22 @@ pub struct Frame {
     pub row: u32,
     pub width: u32,
     pub height: u32,
+}
+
+// The rectangle that a window asks for.
+impl From<Frame> for Rectangle {
+    ghost from_gives = { λ f r. r ≡ asked f };
+
+    fn from(frame: Frame) -> Rectangle {
+        Rectangle {
+            left: frame.column as usize,
+            top: frame.row as usize,
+            size: Size {
+                width: frame.width as usize,
+                height: frame.height as usize,
+            },
+        }
+    }
 }
 
 // A step of the job.
