@@ -12,19 +12,6 @@ Covers k a None = Unit {0}
 Covers k a (Some c) = Under k a c
 
 module _ {C : Type 0} (k : Lattice C) where
-  -- what a meet is, for those who leave the definition shut
-  pub meets_none : meets k [] ≡ k.greatest
-  unfolding meets
-  meets_none = refl
-
-  pub meets_skip : (os : List (Option C)) → meets k (None ∷ os) ≡ meets k os
-  unfolding meets
-  meets_skip os = refl
-
-  pub meets_more : (c : C) (os : List (Option C)) → meets k (Some c ∷ os) ≡ k.meet c (meets k os)
-  unfolding meets
-  meets_more c os = refl
-
   pub covers_trans : (a b : C) (o : Option C) → Under k a b → Covers k b o → Covers k a o
   covers_trans a b None p q = tt
   covers_trans a b (Some c) p q = under_trans k a b c p q

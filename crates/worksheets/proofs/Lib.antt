@@ -1,6 +1,4 @@
 mod Passes
-mod Fronts
 mod Steps
 mod Outcomes
-mod Blends
 mod Middles

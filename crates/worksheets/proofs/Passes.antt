@@ -1,11 +1,11 @@
--- A refused filter, and a filter of two passes: the second goes ahead exactly where the first did.
+-- A filter of two passes: the second goes ahead exactly where the first did.
 use Rattle.std.proofs.Common.{◌≡◌, ℕ, ◌+◌, ◌*◌, ◌^◌, ◌<◌, ◌≤◌, Bool, true, false, cond, ◌&&◌, List, length, ◌+ℤ◌, ◌-ℤ◌, Ok, Err, Option, Result, sym, refl, ap, ◌∙◌, subst, ap₂, arith}
 use Rattle.std.proofs.lemmas.Bool.Decides.{nat_tests}
 use Rattle.cells.specs.Lattice.{Lattice, dual}
 use Rattle.masks.specs.Cost.{filter_picks}
 use Rattle.masks.specs.declared.mask.Mask.{Mask}
 use Rattle.masks.proofs.CostBounds.{filter_picks_few}
-use Rattle.sheets.specs.Sheet.{Sheet, shown}
+use Rattle.sheets.specs.Sheet.{Sheet}
 use Rattle.morphology.specs.Calls.{State, filtered, picks, verdict, sheet_by, answered_by, answered, after}
 use Rattle.morphology.specs.Filters.{points_of}
 use Rattle.morphology.specs.Refusals.{fits, sized, by_mask, judged}
@@ -38,22 +38,6 @@ module _ (q : Filter) (w h : ℕ) where
   ok_mask : (v : Result Mask Refusal) (a : ℕ) → Ok a ≡ answered_by q v w h → (m : Mask) × (v ≡ Ok m) × (a ≡ picks q m w h)
   ok_mask (Ok m) a e = (m, refl, cc)
   ok_mask (Err r) a e = absurd (let z : ◌≡◌ {A = ℕ} 0 1 = cc in omega arith)
-
-  err_refusal : (v : Result Mask Refusal) (r : Refusal) → Err r ≡ answered_by q v w h → v ≡ Err r
-  err_refusal (Ok m) r e = absurd (let z : ◌≡◌ {A = ℕ} 0 1 = cc in omega arith)
-  err_refusal (Err s) r e = cc
-
--- a verdict that is a refusal
-module _ {K C S : Type 0} (k : Lattice C) (f : K → C) (sheet : S → Sheet K) (q : Filter) (w w' : Worksheet S) (t t' : List K) (r : Refusal) where
-  pub refuses : verdict (state f sheet w) (length t) ≡ Err r → state f sheet w' ≡ state f sheet w → sheet w'.holder ≡ sheet w.holder → t' ≡ t →
-      Performed k f sheet q w w' t t' (Err r)
-  refuses e s p o =
-      record {
-        answer = sym (ap (λ v. answered_by q v (sheet w.holder).width (sheet w.holder).height) e);
-        after = s ∙ sym (ap (λ v. record { sheet = sheet_by k q v (shown f (sheet w.holder)); mask = w.mask }) e);
-        refused = subst (λ v. WhereRefused v ((sheet w'.holder ≡ sheet w.holder) × (t' ≡ t))) (sym e) (p, o);
-        table = ap length o;
-      }
 
 -- a filter `both` that is the filter `one`, and then the filter `two`
 pub record Halves (one two both : Filter) : Type 1 where
@@ -116,17 +100,6 @@ module _ {one two both : Filter} (H : Halves one two both) {C : Type 0} (k : Lat
       ∙ same_answer (verdict s n) s.sheet
 
 module _ {one two both : Filter} (H : Halves one two both) {K C S : Type 0} (k : Lattice C) (f : K → C) (sheet : S → Sheet K) (w w1 w2 : Worksheet S) (t t1 t2 : List K) where
-  -- where the first pass is refused, so is the filter
-  pub first_refused : (r : Refusal) → Performed k f sheet one w w1 t t1 (Err r) → Performed k f sheet both w w1 t t1 (Err r)
-  first_refused r P =
-      let g = sheet w.holder in
-      let e : verdict (state f sheet w) (length t) ≡ Err r = err_refusal one g.width g.height (verdict (state f sheet w) (length t)) r P.answer in
-      let same = subst (λ v. WhereRefused v ((sheet w1.holder ≡ g) × (t1 ≡ t))) e P.refused in
-      refuses k f sheet both w w1 t t1 r e
-      (P.after ∙ ap (λ v. record { sheet = sheet_by k one v (shown f g); mask = w.mask }) e)
-      same.0
-      same.1
-
   module _ (a : ℕ) (P : Performed k f sheet one w w1 t t1 (Ok a)) where
     first_mask : (m : Mask) × (verdict (state f sheet w) (length t) ≡ Ok m) × (a ≡ picks one m (sheet w.holder).width (sheet w.holder).height)
     first_mask = ok_mask one (sheet w.holder).width (sheet w.holder).height (verdict (state f sheet w) (length t)) a P.answer

@@ -40,10 +40,6 @@ written_more over xs n x e h =
     ∙ ap (λ (i : ℕ). (over ++ x ∷ []) ++ drop i xs) (sym (length_push over x))
 
 module _ {K C S : Type 0} (k : Lattice C) (f : K → C) (sheet : S → Sheet K) (w : Worksheet S) (t : List K) (bs : List Answer) where
-  -- no call does nothing
-  pub ran_none : Ran k f sheet [] w w t t bs bs
-  ran_none = record { told = refl; after = refl; idle = λ _. (refl, refl); table = refl }
-
   module _ (cs : List Call) (c : Call) (w1 w2 : Worksheet S) (t1 t2 : List K) (bs1 : List Answer) (a : Answer) (P : Ran k f sheet cs w w1 t t1 bs bs1) (Q : Called k f sheet c w1 w2 t1 t2 a) where
     answers_more : answers k cs (state f sheet w) ++ a ∷ [] ≡ answers k (cs ++ c ∷ []) (state f sheet w)
     answers_more =
