@@ -27,7 +27,8 @@ impl Strip<'_> {
         Ok(word)
     }
 
-    // Takes what the next word says. Its place is told apart from it, as in the definitions, where it belongs to what was left.
+    // Takes what the next word says. Its place is told apart from it, as in the definitions, where it belongs to what was
+    // left.
     #[tactic(auto, unfolding(crate::specs::Reading::item_due))]
     fn item(&mut self) -> Result<Item, StripFault>
         ensures { Gives item_due self.old self.new result }

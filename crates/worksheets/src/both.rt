@@ -14,8 +14,8 @@ use sheets::holder::Holder;
 // the fronts of the two lists. A filter takes the fronts of the lent tables, of the length that it names, or of the shorter
 // table's where that is less. A call is made only where its answers have a place in both lists; the number of calls made is
 // answered. For new worksheets, as for any others, the three laws hold: the adjunction, the four sheets, and the matching.
-// Worksheet, answers and table are lent one by one, since a struct that lends the three would owe a clause for each of them, that
-// it still lends the same one.
+// Worksheet, answers and table are lent one by one, since a struct that lends the three would owe a clause for each of them,
+// that it still lends the same one.
 pub fn run_both<A: Kind, B: Kind, G: Holder<Cell = A>, H: Holder<Cell = B>>(
     first: &mut Worksheet<G>,
     second: &mut Worksheet<H>,
