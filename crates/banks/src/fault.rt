@@ -1,54 +1,41 @@
 // What can be wrong with a job, and the line that says so.
 ghost use Rattle.std.specs.Prelude.{◌≡◌};
 ghost use Rattle.drawings.specs.declared.drawn.DrawnFault.TheVariants.{Unread as UnreadDrawing};
-ghost use Rattle.banks.specs.declared.fault.JobFault.TheVariants.{Sheet, Drawn, Memory, Unwritten};
+ghost use Rattle.banks.specs.declared.fault.JobFault.TheVariants.{Missing as MissingPart, Sheet, Drawn, Input, Memory, Unwritten};
 
 use drawings::drawing::DrawingFault;
 use drawings::drawn::DrawnFault;
-use std::alloc::{AllocError, AllocFailed};
+use std::alloc::AllocError;
 use std::{fmt, io};
-use texts::{SheetFault, ToldSheetFault};
-
-// A part of a job, known by the word that begins it.
-#[derive(Clone, Copy, PartialEq, Eq, Debug)]
-pub enum Part {
-    Sheet,
-    Mask,
-    Fore,
-    Back,
-    List,
-}
-
-impl Part {
-    // The word that begins the part: lines are compared with it, so that it is wanted as a word and not only as text.
-    pub fn word(self) -> &'static str {
-        match self {
-            Part::Sheet => "sheet",
-            Part::Mask => "mask",
-            Part::Fore => "fore",
-            Part::Back => "back",
-            Part::List => "list",
-        }
-    }
-}
+use texts::input::InputFault;
+use texts::part::Missing;
+use texts::sheet::{SheetFault, ToldSheetFault};
 
 // Lines are told by their number in the job, from 1.
 #[derive(Clone, Copy)]
 pub enum JobFault {
-    // No line begins the part, after those of the parts before it.
-    Missing(Part),
+    // No line begins a part.
+    Missing(Missing),
     // The sheet cannot be taken in.
     Sheet(SheetFault),
     // A drawing draws no mask.
     Drawn(DrawnFault),
     // The list has no length, or a length above 65,536.
     NoList(usize),
-    // The input is no text, or cannot be read.
-    Unread,
+    // The input gives no lines.
+    Input(InputFault),
     // The listing cannot be written.
     Unwritten,
     // There is no memory for it; this says nothing of the job.
     Memory,
+}
+
+impl From<Missing> for JobFault {
+    ghost from_gives = { λ f r. r ≡ MissingPart f };
+
+    fn from(fault: Missing) -> JobFault {
+        JobFault::Missing(fault)
+    }
 }
 
 impl From<SheetFault> for JobFault {
@@ -83,11 +70,11 @@ impl From<AllocError> for JobFault {
     }
 }
 
-impl<T: Drop> From<AllocFailed<T>> for JobFault {
-    ghost from_gives = { λ _ r. r ≡ Memory };
+impl From<InputFault> for JobFault {
+    ghost from_gives = { λ f r. r ≡ Input f };
 
-    fn from(_e: AllocFailed<T>) -> JobFault {
-        JobFault::Memory
+    fn from(fault: InputFault) -> JobFault {
+        JobFault::Input(fault)
     }
 }
 
@@ -102,10 +89,9 @@ impl From<io::Error> for JobFault {
 impl fmt::Display for JobFault {
     fn fmt<W: fmt::Write>(&self, f: &mut fmt::Formatter<W>) -> fmt::Result {
         match self {
-            JobFault::Missing(part) => write!(
+            JobFault::Missing(fault) => write!(
                 f,
-                "no line begins the {}; a job has sheet, mask, fore, back and list, in this order",
-                part.word()
+                "{fault}; a job has sheet, mask, fore, back and list, in this order"
             ),
             JobFault::Sheet(fault) => {
                 let told = ToldSheetFault {
@@ -119,9 +105,13 @@ impl fmt::Display for JobFault {
                 f,
                 "line {line}: a list has a whole number of places, from 0 to 65536"
             ),
-            JobFault::Unread => write!(f, "the job is no text"),
+            JobFault::Input(InputFault::NoText | InputFault::Unread) => {
+                write!(f, "the job is no text")
+            }
             JobFault::Unwritten => write!(f, "the listing cannot be written"),
-            JobFault::Memory => write!(f, "there is not enough memory"),
+            JobFault::Input(InputFault::Memory) | JobFault::Memory => {
+                write!(f, "there is not enough memory")
+            }
         }
     }
 }

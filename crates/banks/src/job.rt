@@ -1,12 +1,25 @@
 // A job as text: a grid of heights, the mask of a mid, the fore and the back mask of a find, and the length of a list.
-use crate::fault::{JobFault, Part};
+use crate::fault::JobFault;
 use cells::height::Height;
 use drawings::drawing::Drawing;
 use drawings::drawn::mask_of;
 use masks::mask::Mask;
 use sheets::holder::Size;
 use std::alloc::Global;
-use texts::{drawn_lines, heading, read_sheet, setting, value_of};
+use texts::line::{Line, drawn_lines, numbered};
+use texts::part::Part;
+use texts::sheet::read_sheet;
+
+// The parts of a job, in their order.
+const SHEET: Part = Part::Heading("sheet");
+
+const MASK: Part = Part::Heading("mask");
+
+const FORE: Part = Part::Heading("fore");
+
+const BACK: Part = Part::Heading("back");
+
+const LIST: Part = Part::Setting("list");
 
 // The longest list of places.
 const MOST_PLACES: usize = 65_536;
@@ -24,52 +37,35 @@ pub struct Job {
 impl Job {
     // Reads the lines of a job. What stands before its sheet is passed over.
     pub fn read(alloc: Global, lines: &[String]) -> Result<Job, JobFault> {
-        let sheet = beginning(lines, 0, Part::Sheet)?;
-        let mask = beginning(lines, sheet, Part::Mask)?;
-        let fore = beginning(lines, mask, Part::Fore)?;
-        let back = beginning(lines, fore, Part::Back)?;
-        let list = beginning(lines, back, Part::List)?;
-        let (size, numbers) = read_sheet::<i32>(alloc, lines, sheet.saturating_add(1), mask)?;
+        let lines = numbered(alloc, lines)?;
+        let (_, _, rest) = SHEET.cut(lines.as_slice())?;
+        let (sheet, _, rest) = MASK.cut(rest)?;
+        let (mask, _, rest) = FORE.cut(rest)?;
+        let (fore, _, rest) = BACK.cut(rest)?;
+        let (back, list, _) = LIST.cut(rest)?;
+        let (size, numbers) = read_sheet::<i32>(alloc, sheet)?;
         Ok(Job {
             size,
             cells: numbers.iter().map(|n| Height(*n)).collect(alloc)?,
-            mask: read_mask(alloc, lines, mask, fore)?,
-            fore: read_mask(alloc, lines, fore, back)?,
-            back: read_mask(alloc, lines, back, list)?,
-            places: read_list(lines, list)?,
+            mask: read_mask(alloc, mask)?,
+            fore: read_mask(alloc, fore)?,
+            back: read_mask(alloc, back)?,
+            places: read_list(list)?,
         })
     }
 }
 
-// The first line from one on that begins the part: it has the part's word alone, or, of a list, as the first of its words.
-fn beginning(lines: &[String], from: usize, part: Part) -> Result<usize, JobFault> {
-    let found = match part {
-        Part::List => setting(lines, from, part.word()),
-        _ => heading(lines, from, part.word()),
-    };
-    found.ok_or(JobFault::Missing(part))
-}
-
-// The mask that is drawn between two lines.
-fn read_mask(
-    alloc: Global,
-    lines: &[String],
-    heading: usize,
-    end: usize,
-) -> Result<Mask, JobFault> {
-    let drawn = drawn_lines(alloc, lines, heading.saturating_add(1), end)?;
+// The mask that is drawn in the lines.
+fn read_mask(alloc: Global, lines: &[Line]) -> Result<Mask, JobFault> {
+    let drawn = drawn_lines(alloc, lines)?;
     let drawing = Drawing::read(alloc, drawn.as_slice())?;
     Ok(mask_of(&drawing)?)
 }
 
 // How many places the list has.
-fn read_list(lines: &[String], line: usize) -> Result<usize, JobFault> {
-    let fault = JobFault::NoList(line.saturating_add(1));
-    let Some(text) = lines.get(line) else {
-        return Err(fault);
-    };
-    match value_of::<usize>(text.as_str()) {
+fn read_list(line: Line) -> Result<usize, JobFault> {
+    match line.value::<usize>() {
         Some(places) if places <= MOST_PLACES => Ok(places),
-        _ => Err(fault),
+        _ => Err(JobFault::NoList(line.number)),
     }
 }

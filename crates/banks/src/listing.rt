@@ -5,12 +5,12 @@ use cells::height::Height;
 use filters::find::find;
 use masks::cost;
 use masks::mask::Mask;
+use morphology::call::Answer;
 use morphology::place::Place;
-use morphology::refusal::Refusal;
-use sheets::holder::Holder;
 use sheets::rows::Rows;
 use std::alloc::{AllocError, Global};
 use std::io;
+use texts::told::{ToldAnswer, ToldRefusal, ToldRows};
 use worksheets::worksheet::Worksheet;
 
 // Lists the mid of the heights under the mask, with the closing beside it, and then the hits of the heights as they were
@@ -29,16 +29,16 @@ fn run_mid(rt: &HostRuntime, job: &Job) -> Result<(), JobFault> {
     let mut sheet = Worksheet::new(Rows::new(job.size.width, cells.as_mut_slice()));
     let mut second = Rows::new(job.size.width, closed.as_mut_slice());
     sheet.lay(job.mask);
-    let answer = sheet.mid(&mut second, table.as_mut_slice());
+    let answer = Answer::from(sheet.mid(&mut second, table.as_mut_slice()));
     println!(rt)?;
-    print!(rt; "mid, mask of points {}: ", job.mask.count())?;
-    match answer {
-        Ok(picks) => println!(rt; "{picks} picks")?,
-        Err(refusal) => print_refusal(rt, refusal)?,
-    }
-    print_rows(rt, sheet.holder())?;
+    println!(rt;
+        "mid, mask of points {}: {}",
+        job.mask.count(),
+        ToldAnswer(answer)
+    )?;
+    print_rows(rt, job, cells.as_slice())?;
     println!(rt; "the closing")?;
-    print_rows(rt, &second)?;
+    print_rows(rt, job, closed.as_slice())?;
     Ok(())
 }
 
@@ -68,7 +68,7 @@ fn run_find(rt: &HostRuntime, job: &Job) -> Result<(), JobFault> {
             println!(rt; "{hits} hits, {picks} picks")?;
             print_places(rt, places.as_slice(), hits)?;
         }
-        Err(refusal) => print_refusal(rt, refusal)?,
+        Err(refusal) => println!(rt; "{}", ToldRefusal(refusal))?,
     }
     Ok(())
 }
@@ -77,10 +77,6 @@ fn run_find(rt: &HostRuntime, job: &Job) -> Result<(), JobFault> {
 fn table_for(alloc: Global, mask: &Mask, width: usize) -> Result<Vec<Height>, AllocError> {
     let cells = cost::table_cells(mask, width as u64) as usize;
     vec![in alloc; Height(0); cells]
-}
-
-fn print_refusal(rt: &HostRuntime, refusal: Refusal) -> io::Result<()> {
-    println!(rt; "refused {}", refusal.number())
 }
 
 // The hits at the front of the list, and how many more there are.
@@ -92,17 +88,8 @@ fn print_places(rt: &HostRuntime, places: &[Place], hits: usize) -> io::Result<(
     println!(rt; "hits that the list has no place for: {more}")
 }
 
-// The rows of a sheet, the northmost first; by number, since the places of a holder are no list.
-fn print_rows<H: Holder<Cell = Height>>(rt: &HostRuntime, sheet: &H) -> io::Result<()> {
-    let size = sheet.size();
-    for y in 0..size.height {
-        print!(rt; " ")?;
-        for x in 0..size.width {
-            if let Some(Height(number)) = sheet.cell(x, y) {
-                print!(rt; " {number}")?;
-            }
-        }
-        println!(rt)?;
-    }
-    Ok(())
+// The rows of a sheet as wide as the job's.
+fn print_rows(rt: &HostRuntime, job: &Job, cells: &[Height]) -> io::Result<()> {
+    let width = job.size.width;
+    print!(rt; "{}", ToldRows { width, cells })
 }

@@ -12,9 +12,8 @@ mod listing;
 
 use fault::JobFault;
 use job::Job;
-use std::io;
-use std::io::{BufRead, BufReader, ErrorKind};
 use std::process::ExitCode;
+use texts::input::input_lines;
 
 fn main(rt: HostRuntime) -> ExitCode {
     match run(&rt) {
@@ -28,26 +27,7 @@ fn main(rt: HostRuntime) -> ExitCode {
 
 // Reads a job from standard input, runs it and lists what it did.
 fn run(rt: &HostRuntime) -> Result<(), JobFault> {
-    let lines = input(rt)?;
+    let lines = input_lines(rt)?;
     let job = Job::read(rt.alloc(), lines.as_slice())?;
     listing::run(rt, &job)
-}
-
-// The lines of standard input.
-fn input(rt: &HostRuntime) -> Result<Vec<String>, JobFault> {
-    let heap = rt.alloc();
-    let reader = BufReader::new(heap, rt.reader()).map_err(unread)?;
-    let mut lines = Vec::new(heap);
-    for line in reader.lines(heap) {
-        lines.push(line.map_err(unread)?)?;
-    }
-    Ok(lines)
-}
-
-// Why the input is not read.
-fn unread(error: io::Error) -> JobFault {
-    match error.kind() {
-        ErrorKind::OutOfMemory => JobFault::Memory,
-        _ => JobFault::Unread,
-    }
 }

@@ -1,12 +1,15 @@
 // What can keep a plan from being made, and the line that says so.
 ghost use Rattle.std.specs.Prelude.{◌≡◌};
 ghost use Rattle.drawings.specs.declared.drawn.DrawnFault.TheVariants.{Unread};
+ghost use Rattle.texts.specs.declared.input.InputFault.TheVariants.{Unread as UnreadInput};
 ghost use Rattle.maskplan.specs.declared.fault.PlanFault.TheVariants.{Drawn, Memory, Input};
 
 use drawings::drawing::DrawingFault;
 use drawings::drawn::DrawnFault;
-use std::alloc::{AllocError, AllocFailed};
+use sheets::holder::Size;
+use std::alloc::AllocError;
 use std::{fmt, io};
+use texts::input::InputFault;
 
 #[derive(Clone, Copy)]
 pub enum PlanFault {
@@ -14,12 +17,12 @@ pub enum PlanFault {
     Usage,
     WidthIsNoNumber,
     HeightIsNoNumber,
-    // A width or a height of 0 or above 2,048, as the filters refuse it.
-    WrongSize(u64, u64),
+    // The width or height is 0 or above 2,048, as the filters refuse it.
+    WrongSize(Size),
     // The drawing draws no mask.
     Drawn(DrawnFault),
-    // The input is no text, or cannot be read.
-    Input,
+    // The input gives no lines.
+    Input(InputFault),
     // The plan cannot be written.
     Unwritten,
     // There is no memory for it; this says nothing of the drawing.
@@ -50,19 +53,19 @@ impl From<AllocError> for PlanFault {
     }
 }
 
-impl<T: Drop> From<AllocFailed<T>> for PlanFault {
-    ghost from_gives = { λ _ r. r ≡ Memory };
+impl From<InputFault> for PlanFault {
+    ghost from_gives = { λ f r. r ≡ Input f };
 
-    fn from(_e: AllocFailed<T>) -> PlanFault {
-        PlanFault::Memory
+    fn from(fault: InputFault) -> PlanFault {
+        PlanFault::Input(fault)
     }
 }
 
 impl From<io::Error> for PlanFault {
-    ghost from_gives = { λ _ r. r ≡ Input };
+    ghost from_gives = { λ _ r. r ≡ Input UnreadInput };
 
     fn from(_e: io::Error) -> PlanFault {
-        PlanFault::Input
+        PlanFault::Input(InputFault::Unread)
     }
 }
 
@@ -81,16 +84,19 @@ impl fmt::Display for PlanFault {
                 f,
                 "the height is not a whole number from 1 to 2048"
             ),
-            PlanFault::WrongSize(width, height) => {
-                write!(
-                    f,
-                    "refused 9: the sheet is {width} by {height}; each goes from 1 to 2048"
-                )
-            }
+            PlanFault::WrongSize(size) => write!(
+                f,
+                "refused 9: the sheet is {} by {}; each goes from 1 to 2048",
+                size.width, size.height
+            ),
             PlanFault::Drawn(fault) => write!(f, "{fault}"),
-            PlanFault::Input => write!(f, "the drawing is no text"),
+            PlanFault::Input(InputFault::NoText | InputFault::Unread) => {
+                write!(f, "the drawing is no text")
+            }
             PlanFault::Unwritten => write!(f, "the plan cannot be written"),
-            PlanFault::Memory => write!(f, "there is not enough memory"),
+            PlanFault::Input(InputFault::Memory) | PlanFault::Memory => {
+                write!(f, "there is not enough memory")
+            }
         }
     }
 }

@@ -1,12 +1,13 @@
 // The plan as text.
 use crate::plan;
-use crate::plan::{Costs, Size};
+use crate::plan::Costs;
 use drawings::drawing::Drawing;
 use drawings::picture::picture_row;
 use masks::chord::ChordList;
 use masks::lengths::LengthList;
 use masks::mask::Mask;
 use masks::point::Point;
+use sheets::holder::Size;
 use std::io;
 
 // Prints each step of the plan.

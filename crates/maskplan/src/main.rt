@@ -13,10 +13,11 @@ mod listing;
 use drawings::drawing::Drawing;
 use drawings::drawn::mask_of;
 use fault::PlanFault;
-use plan::Size;
+use sheets::holder::Size;
 use std::io::ErrorKind;
 use std::process::ExitCode;
 use std::{env, io};
+use texts::input::input_lines;
 
 fn main(rt: HostRuntime) -> ExitCode {
     match run(&rt) {
@@ -31,7 +32,7 @@ fn main(rt: HostRuntime) -> ExitCode {
 // Reads the size from the arguments and the drawing from standard input, and prints each step.
 fn run(rt: &HostRuntime) -> Result<(), PlanFault> {
     let size = size(rt)?;
-    let lines = input(rt)?;
+    let lines = input_lines(rt)?;
     let drawing = Drawing::read(rt.alloc(), lines.as_slice())?;
     let mask = mask_of(&drawing)?;
     listing::print(rt, &drawing, &mask, size).map_err(unwritten)
@@ -39,37 +40,17 @@ fn run(rt: &HostRuntime) -> Result<(), PlanFault> {
 
 // The two arguments, the sheet's width and height.
 fn size(rt: &HostRuntime) -> Result<Size, PlanFault> {
-    let mut words = Vec::new(rt.alloc());
-    for word in env::args(rt)? {
-        words.push(word)?;
-    }
+    let words: Vec<String> = env::args(rt)?.collect(rt.alloc())?;
     let [_, width, height] = words.as_slice() else {
         return Err(PlanFault::Usage);
     };
-    let Ok(width) = width.as_str().parse::<u64>() else {
+    let Ok(width) = width.as_str().parse::<usize>() else {
         return Err(PlanFault::WidthIsNoNumber);
     };
-    let Ok(height) = height.as_str().parse::<u64>() else {
+    let Ok(height) = height.as_str().parse::<usize>() else {
         return Err(PlanFault::HeightIsNoNumber);
     };
-    plan::sized(width, height)
-}
-
-// The lines of standard input.
-fn input(rt: &HostRuntime) -> Result<Vec<String>, PlanFault> {
-    let mut lines = Vec::new(rt.alloc());
-    for line in rt.lines(rt.alloc()) {
-        lines.push(line.map_err(unread)?)?;
-    }
-    Ok(lines)
-}
-
-// Why the input is not read.
-fn unread(error: io::Error) -> PlanFault {
-    match error.kind() {
-        ErrorKind::OutOfMemory => PlanFault::Memory,
-        _ => PlanFault::from(error),
-    }
+    plan::sized(Size { width, height })
 }
 
 // Why the plan is not printed to its end.

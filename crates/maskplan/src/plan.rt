@@ -1,4 +1,4 @@
-// The size of the sheet and the costs, as values.
+// The size of the sheet, and what filters cost on it.
 ghost use Rattle.std.specs.Prelude.{◌≡◌, ◌*◌, ◌&&◌, if◌then◌else◌, Ok, Err};
 ghost use Rattle.masks.specs.Cost.{spanned, table_cells, filter_picks, capped};
 ghost use Rattle.maskplan.specs.Sizes.{fits};
@@ -7,13 +7,7 @@ ghost use Rattle.maskplan.specs.declared.fault.PlanFault.TheVariants.{WrongSize}
 use crate::fault::PlanFault;
 use masks::cost;
 use masks::mask::Mask;
-
-// A sheet's width and height.
-#[derive(Clone, Copy)]
-pub struct Size {
-    pub width: u64,
-    pub height: u64,
-}
+use sheets::holder::Size;
 
 // What filters under a mask cost on a sheet: the rows V that the mask spans, the cells of the table to lend, the picks of
 // an erosion or a dilation, and those of an opening or a closing.
@@ -26,17 +20,17 @@ pub struct Costs {
 }
 
 // A size that the filters take: width and height from 1 to 2,048.
-pub fn sized(width: u64, height: u64) -> Result<Size, PlanFault>
-    ensures { result ≡ (if fits width && fits height then Ok (record { width = width; height = height }) else Err (WrongSize width height)) }
+pub fn sized(size: Size) -> Result<Size, PlanFault>
+    ensures { result ≡ (if fits size.width && fits size.height then Ok size else Err (WrongSize size)) }
 {
-    if fits(width) && fits(height) {
-        Ok(Size { width, height })
+    if fits(size.width) && fits(size.height) {
+        Ok(size)
     } else {
-        Err(PlanFault::WrongSize(width, height))
+        Err(PlanFault::WrongSize(size))
     }
 }
 
-fn fits(n: u64) -> bool
+fn fits(n: usize) -> bool
     ensures { result ≡ fits n }
 {
     1 <= n && n <= 2048
@@ -49,10 +43,11 @@ pub fn priced(mask: &Mask, size: Size) -> Costs
     ensures filter { result.filter ≡ capped (filter_picks mask.now.rows size.width size.height) }
     ensures opening { result.opening ≡ capped (2 * filter_picks mask.now.rows size.width size.height) }
 {
+    let (width, height) = (size.width as u64, size.height as u64);
     Costs {
         rows: cost::rows(mask),
-        table: cost::table_cells(mask, size.width),
-        filter: cost::filter_picks(mask, size.width, size.height),
-        opening: cost::opening_picks(mask, size.width, size.height),
+        table: cost::table_cells(mask, width),
+        filter: cost::filter_picks(mask, width, height),
+        opening: cost::opening_picks(mask, width, height),
     }
 }

@@ -1,40 +1,21 @@
 // What can be wrong with a job, and the line that says so.
 ghost use Rattle.std.specs.Prelude.{◌≡◌};
 ghost use Rattle.drawings.specs.declared.drawn.DrawnFault.TheVariants.{Unread as UnreadDrawing};
-ghost use Rattle.sheetlaws.specs.declared.fault.JobFault.TheVariants.{Sheet, Drawn, Memory, Unwritten};
+ghost use Rattle.sheetlaws.specs.declared.fault.JobFault.TheVariants.{Missing as MissingPart, Sheet, Drawn, Input, Memory, Unwritten};
 
 use drawings::drawing::DrawingFault;
 use drawings::drawn::DrawnFault;
-use std::alloc::{AllocError, AllocFailed};
+use std::alloc::AllocError;
 use std::{fmt, io};
-use texts::{SheetFault, ToldSheetFault};
-
-// A part of a job, known by the word that begins it.
-#[derive(Clone, Copy, PartialEq, Eq, Debug)]
-pub enum Part {
-    Sheet,
-    Mask,
-    Threshold,
-    Calls,
-}
-
-impl Part {
-    // The word that begins the part: lines are compared with it, so that it is wanted as a word and not only as text.
-    pub fn word(self) -> &'static str {
-        match self {
-            Part::Sheet => "sheet",
-            Part::Mask => "mask",
-            Part::Threshold => "threshold",
-            Part::Calls => "calls",
-        }
-    }
-}
+use texts::input::InputFault;
+use texts::part::Missing;
+use texts::sheet::{SheetFault, ToldSheetFault};
 
 // Lines are told by their number in the job, from 1.
 #[derive(Clone, Copy)]
 pub enum JobFault {
-    // No line begins the part, after those of the parts before it.
-    Missing(Part),
+    // No line begins a part.
+    Missing(Missing),
     // The sheet cannot be taken in.
     Sheet(SheetFault),
     // The drawing draws no mask.
@@ -43,14 +24,20 @@ pub enum JobFault {
     NoThreshold(usize),
     // A line of the calls is neither open nor close, with perhaps the length of a table.
     NoCall(usize),
-    // The input is no text.
-    NoText,
-    // The input cannot be read.
-    Unread,
+    // The input gives no lines.
+    Input(InputFault),
     // The listing cannot be written.
     Unwritten,
     // There is no memory for it; this says nothing of the job.
     Memory,
+}
+
+impl From<Missing> for JobFault {
+    ghost from_gives = { λ f r. r ≡ MissingPart f };
+
+    fn from(fault: Missing) -> JobFault {
+        JobFault::Missing(fault)
+    }
 }
 
 impl From<SheetFault> for JobFault {
@@ -85,11 +72,11 @@ impl From<AllocError> for JobFault {
     }
 }
 
-impl<T: Drop> From<AllocFailed<T>> for JobFault {
-    ghost from_gives = { λ _ r. r ≡ Memory };
+impl From<InputFault> for JobFault {
+    ghost from_gives = { λ f r. r ≡ Input f };
 
-    fn from(_e: AllocFailed<T>) -> JobFault {
-        JobFault::Memory
+    fn from(fault: InputFault) -> JobFault {
+        JobFault::Input(fault)
     }
 }
 
@@ -104,10 +91,9 @@ impl From<io::Error> for JobFault {
 impl fmt::Display for JobFault {
     fn fmt<W: fmt::Write>(&self, f: &mut fmt::Formatter<W>) -> fmt::Result {
         match self {
-            JobFault::Missing(part) => write!(
+            JobFault::Missing(fault) => write!(
                 f,
-                "no line begins the {}; a job has sheet, mask, threshold and calls, in this order",
-                part.word()
+                "{fault}; a job has sheet, mask, threshold and calls, in this order"
             ),
             JobFault::Sheet(fault) => {
                 let told = ToldSheetFault {
@@ -125,10 +111,12 @@ impl fmt::Display for JobFault {
                 f,
                 "line {line}: a call is open or close, and perhaps the cells of its table"
             ),
-            JobFault::NoText => write!(f, "the job is no text"),
-            JobFault::Unread => write!(f, "the job cannot be read"),
+            JobFault::Input(InputFault::NoText) => write!(f, "the job is no text"),
+            JobFault::Input(InputFault::Unread) => write!(f, "the job cannot be read"),
             JobFault::Unwritten => write!(f, "the listing cannot be written"),
-            JobFault::Memory => write!(f, "there is not enough memory"),
+            JobFault::Input(InputFault::Memory) | JobFault::Memory => {
+                write!(f, "there is not enough memory")
+            }
         }
     }
 }

@@ -1,8 +1,7 @@
 // A job as text: a gray sheet, a mask, a threshold, and a list of openings and closings.
-ghost use Rattle.std.specs.Prelude.{◌≡◌, ◌≤◌, ◌<◌, IfOk, length};
+ghost use Rattle.std.specs.Prelude.{◌≡◌, Some};
 
-use crate::fault::{JobFault, Part};
-use crate::names::call_name;
+use crate::fault::JobFault;
 use cells::gray::Gray;
 use cells::threshold::Threshold;
 use drawings::drawing::Drawing;
@@ -14,7 +13,18 @@ use morphology::standing::Sort;
 use sheets::holder::Size;
 use std::alloc::Global;
 use std::fmt;
-use texts::{drawn_lines, heading, read_sheet, setting, value_of};
+use texts::line::{Line, drawn_lines, numbered};
+use texts::part::Part;
+use texts::sheet::read_sheet;
+
+// The parts of a job, in their order.
+const SHEET: Part = Part::Heading("sheet");
+
+const MASK: Part = Part::Heading("mask");
+
+const THRESHOLD: Part = Part::Setting("threshold");
+
+const CALLS: Part = Part::Heading("calls");
 
 // A job that was read. The sheet's cells lie row by row.
 #[derive(Drop)]
@@ -49,19 +59,20 @@ impl Job {
 
     // Reads the lines of a job. What stands before its sheet is passed over.
     pub fn read(heap: Global, lines: &[String]) -> Result<Job, JobFault> {
-        let sheet = beginning(lines, 0, Part::Sheet)?;
-        let mask = beginning(lines, sheet, Part::Mask)?;
-        let threshold = beginning(lines, mask, Part::Threshold)?;
-        let calls = beginning(lines, threshold, Part::Calls)?;
-        let (size, levels) = read_sheet::<u8>(heap, lines, sheet + 1, mask)?;
-        let drawn = drawn_lines(heap, lines, mask + 1, threshold)?;
+        let lines = numbered(heap, lines)?;
+        let (_, _, rest) = SHEET.cut(lines.as_slice())?;
+        let (sheet, _, rest) = MASK.cut(rest)?;
+        let (mask, threshold, rest) = THRESHOLD.cut(rest)?;
+        let (_, _, calls) = CALLS.cut(rest)?;
+        let (size, levels) = read_sheet::<u8>(heap, sheet)?;
+        let drawn = drawn_lines(heap, mask)?;
         let drawing = Drawing::read(heap, drawn.as_slice())?;
         Ok(Job {
             size,
             cells: levels.iter().map(|level| Gray(*level)).collect(heap)?,
             mask: mask_of(&drawing)?,
-            threshold: read_threshold(lines[threshold].as_str(), threshold + 1)?,
-            passes: read_calls(heap, lines, calls + 1)?,
+            threshold: read_threshold(threshold)?,
+            passes: read_calls(heap, calls)?,
         })
     }
 
@@ -74,49 +85,38 @@ impl Job {
 }
 
 impl fmt::Display for Pass {
+    ghost use Rattle.sheetlaws.specs.Names.{pass_text};
+
+    ghost output = { λ p. Some (pass_text p) };
+
     fn fmt<W: fmt::Write>(&self, f: &mut fmt::Formatter<W>) -> fmt::Result {
-        let call = call_name(self.sort);
+        let filter = Filter::from(self.sort);
         match self.cells {
-            Some(cells) => write!(f, "{call} with {cells} cells"),
-            None => write!(f, "{call}"),
+            Some(cells) => write!(f, "{filter} with {cells} cells"),
+            None => write!(f, "{filter}"),
         }
     }
-}
-
-// The first line from one on that begins the part: it has the part's word alone, or, of a threshold, as the first of its
-// words.
-fn beginning(lines: &[String], from: usize, part: Part) -> Result<usize, JobFault>
-    ensures { IfOk result (λ i. (from ≤ i) × (i < length lines.now)) }
-{
-    let found = match part {
-        Part::Threshold => setting(lines, from, part.word()),
-        _ => heading(lines, from, part.word()),
-    };
-    found.ok_or(JobFault::Missing(part))
 }
 
 // The level that follows the word `threshold`.
-fn read_threshold(line: &str, number: usize) -> Result<Threshold, JobFault> {
-    value_of::<u8>(line)
+fn read_threshold(line: Line) -> Result<Threshold, JobFault> {
+    line.value::<u8>()
         .and_then(Threshold::new)
-        .ok_or(JobFault::NoThreshold(number))
+        .ok_or(JobFault::NoThreshold(line.number))
 }
 
-// The calls, from line `from` on.
-fn read_calls(heap: Global, lines: &[String], from: usize) -> Result<Vec<Pass>, JobFault> {
-    let mut passes = Vec::new(heap);
-    for (i, line) in lines.iter().enumerate().skip(from) {
-        if let Some(pass) = read_call(line.as_str(), i.saturating_add(1))? {
-            passes.push(pass)?;
-        }
-    }
-    Ok(passes)
+// The calls, each in a line of its own.
+fn read_calls(heap: Global, lines: &[Line]) -> Result<Vec<Pass>, JobFault> {
+    lines
+        .iter()
+        .filter_map(|line| read_call(*line).transpose())
+        .try_collect(heap)
 }
 
 // The call of a line, or none where the line is blank.
-fn read_call(line: &str, number: usize) -> Result<Option<Pass>, JobFault> {
-    let fault = JobFault::NoCall(number);
-    let mut words = line.split_whitespace();
+fn read_call(line: Line) -> Result<Option<Pass>, JobFault> {
+    let fault = JobFault::NoCall(line.number);
+    let mut words = line.text.split_whitespace();
     match (words.next(), words.next(), words.next()) {
         (None, _, _) => Ok(None),
         (Some(name), None, _) => Ok(Some(Pass {

@@ -16,7 +16,7 @@ mod album;
 // What is told of a job, as values.
 mod report;
 
-// The words for calls and sheets.
+// The words for sheets.
 mod names;
 
 // The report as text.
@@ -24,10 +24,10 @@ mod listing;
 
 use fault::JobFault;
 use job::Job;
+use listing::Listing;
 use report::Report;
-use std::io;
-use std::io::{BufRead, BufReader, ErrorKind};
 use std::process::ExitCode;
+use texts::input::input_lines;
 
 fn main(rt: HostRuntime) -> ExitCode {
     match run(&rt) {
@@ -41,30 +41,15 @@ fn main(rt: HostRuntime) -> ExitCode {
 
 // Reads a job from standard input and runs it; then lists what it did.
 fn run(rt: &HostRuntime) -> Result<(), JobFault> {
-    let lines = input(rt)?;
+    let lines = input_lines(rt)?;
     let job = Job::read(rt.alloc(), lines.as_slice())?;
     let report = Report::of(rt.alloc(), &job)?;
-    listing::print(rt, &job, &report)
-}
-
-// The lines of standard input.
-fn input(rt: &HostRuntime) -> Result<Vec<String>, JobFault> {
-    let heap = rt.alloc();
-    let reader = BufReader::new(heap, rt.reader()).map_err(unread)?;
-    let mut lines = Vec::new(heap);
-    for line in reader.lines(heap) {
-        lines.push(line.map_err(unread)?)?;
-    }
-    Ok(lines)
-}
-
-// Why the input is not read.
-fn unread(error: io::Error) -> JobFault {
-    match error.kind() {
-        ErrorKind::OutOfMemory => JobFault::Memory,
-        ErrorKind::InvalidData => JobFault::NoText,
-        _ => JobFault::Unread,
-    }
+    let listing = Listing {
+        rt,
+        job: &job,
+        report: &report,
+    };
+    Ok(listing.print()?)
 }
 
 #[cfg(test)]

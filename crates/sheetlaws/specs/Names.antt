@@ -1,0 +1,46 @@
+-- The words for calls and sheets in a listing, byte by byte.
+--     pass_text p      a call
+--     done q           what a filter of the sort q does to a sheet
+--     sheet_name s     the name of a sheet
+--     reason s         which filters were accepted where the sheet s stands
+use Rattle.std.specs.Prelude.{ℕ, List, [], ◌++◌, codes, Some, None, Option}
+use Rattle.std.specs.Fmt.{decimal}
+use Rattle.morphology.specs.Calls.{filter_name}
+use Rattle.morphology.specs.FourSheets.{filter_of, other}
+use Rattle.morphology.specs.declared.standing.Sort.{Sort}
+use Rattle.morphology.specs.declared.standing.Sort.TheVariants.{Opening, Closing}
+use Rattle.morphology.specs.declared.standing.Standing.{Standing}
+use Rattle.morphology.specs.declared.standing.Standing.TheVariants.{Loaded, Once, Twice, Thrice}
+use Rattle.sheetlaws.specs.declared.job.Pass.{Pass}
+
+abbrev pub call : Sort → List ℕ
+call q = filter_name (filter_of q)
+
+abbrev pub cells_text : Option ℕ → List ℕ
+cells_text None = []
+cells_text (Some n) = codes " with " ++ decimal n ++ codes " cells"
+
+-- with the cells of its table, where the job tells them
+abbrev pub pass_text : Pass → List ℕ
+pass_text p = call p.sort ++ cells_text p.cells
+
+abbrev pub done : Sort → List ℕ
+done Opening = codes "opened"
+done Closing = codes "closed"
+
+-- what was done to the loaded one, in the order of time
+abbrev pub sheet_name : Standing → List ℕ
+sheet_name Loaded = codes "loaded"
+sheet_name (Once q) = done q
+sheet_name (Twice q) = done q ++ codes "-" ++ done (other q)
+sheet_name (Thrice q) = done q ++ codes "-" ++ done (other q) ++ codes "-" ++ done q
+
+abbrev pub reason : Standing → List ℕ
+reason Loaded = codes "so the sheet is as it was loaded"
+reason (Once q) = codes "all of them " ++ call q ++ codes ", so the sheet is " ++ done q ++ codes " once"
+reason (Twice q) =
+    codes "the first " ++ call q ++ codes ", the last " ++ call (other q)
+    ++ codes ", so the sheet is " ++ done q ++ codes " and then " ++ done (other q)
+reason (Thrice q) =
+    codes "the first and the last " ++ call q ++ codes ", with " ++ call (other q) ++ codes " between them, so the sheet is "
+    ++ done q ++ codes ", " ++ done (other q) ++ codes " and " ++ done q ++ codes " again"

@@ -1,0 +1,5 @@
+-- Read in this order.
+pub mod Inputs
+pub mod Lines
+pub mod Parts
+pub mod Told

@@ -1,0 +1,48 @@
+-- The line that begins a part of a job.
+--     word_of p                  the word of the part p
+--     FirstWords bs r q          what the words of the line bs are, as far as the second
+--     begins p r q               a line of these words begins p
+--     Begins p bs b              b tells whether the line bs begins p
+--     Lacks p ls                 no line of ls begins p
+--     IsFirst p ls i             line i of ls is the first that begins p
+--     Cuts p ls before l behind  l is the first line of ls that begins p
+use Rattle.std.specs.Prelude.{◌≡◌, ℕ, ◌<◌, Bool, true, false, ◌&&◌, List, ◌∷◌, ◌++◌, length, None, Some, Option, bytes_eq}
+use Rattle.std.specs.List.{AllWithin, HoldsAt}
+use Rattle.std.specs.Option.{is_none}
+use Rattle.std.specs.Borrow.{Bor}
+use Rattle.std.specs.Str.Iter.{split_whitespace_rest, split_whitespace_steps}
+use Rattle.std.specs.declared.str.SplitWhitespace.{SplitWhitespace}
+use Rattle.texts.specs.declared.line.Line.{Line}
+use Rattle.texts.specs.declared.part.Part.{Part}
+use Rattle.texts.specs.declared.part.Part.TheVariants.{Heading, Setting}
+
+abbrev pub word_of : Part → List ℕ
+word_of (Heading w) = w.now
+word_of (Setting w) = w.now
+
+-- as `split_whitespace` gives them
+abbrev pub FirstWords : List ℕ → Option (Bor (List ℕ)) → Option (Bor (List ℕ)) → Type 0
+FirstWords bs r q = (s t u : SplitWhitespace) × (split_whitespace_rest s ≡ bs) × split_whitespace_steps s r t × split_whitespace_steps t q u
+
+abbrev pub is_word : List ℕ → Option (Bor (List ℕ)) → Bool
+is_word w None = false
+is_word w (Some x) = bytes_eq x.now w
+
+-- a heading has the word alone, a setting has it first
+abbrev pub begins : Part → Option (Bor (List ℕ)) → Option (Bor (List ℕ)) → Bool
+begins (Heading w) r q = is_word w.now r && is_none q
+begins (Setting w) r q = is_word w.now r
+
+abbrev pub Begins : Part → List ℕ → Bool → Type 0
+Begins p bs b = (r q : Option (Bor (List ℕ))) × FirstWords bs r q × (b ≡ begins p r q)
+
+abbrev pub Lacks : Part → List Line → Type 0
+Lacks p ls = AllWithin (λ l. Begins p l.text.now false) ls 0 (length ls)
+
+abbrev pub IsFirst : Part → List Line → ℕ → Type 0
+IsFirst p ls i = (i < length ls) × HoldsAt (λ l. Begins p l.text.now true) ls i × AllWithin (λ l. Begins p l.text.now false) ls 0 i
+
+pub record Cuts (p : Part) (ls before : List Line) (l : Line) (behind : List Line) : Type 0 where
+  pub whole : ls ≡ before ++ l ∷ behind
+  pub begun : Begins p l.text.now true
+  pub first : Lacks p before

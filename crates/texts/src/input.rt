@@ -1,0 +1,36 @@
+// The lines of the input.
+ghost use Rattle.std.specs.Prelude.{◌≡◌};
+ghost use Rattle.std.specs.IoError.{error_kind};
+ghost use Rattle.texts.specs.Inputs.{input_fault};
+
+use std::io;
+use std::io::{BufRead, BufReader, ErrorKind};
+
+// Why the input gives no lines.
+#[derive(Clone, Copy, PartialEq, Eq, Debug)]
+pub enum InputFault {
+    // It is no text.
+    NoText,
+    // It cannot be read.
+    Unread,
+    // There is no memory for it; this says nothing of the input.
+    Memory,
+}
+
+impl From<io::Error> for InputFault {
+    ghost from_gives = { λ e f. f ≡ input_fault (error_kind e) };
+
+    fn from(error: io::Error) -> InputFault {
+        match error.kind() {
+            ErrorKind::OutOfMemory => InputFault::Memory,
+            ErrorKind::InvalidData => InputFault::NoText,
+            _ => InputFault::Unread,
+        }
+    }
+}
+
+// The lines of standard input.
+pub fn input_lines<R: Input + AllocGlobal>(rt: &R) -> Result<Vec<String>, InputFault> {
+    let reader = BufReader::new(rt.alloc(), rt.reader())?;
+    Ok(reader.lines(rt.alloc()).try_collect(rt.alloc())?)
+}

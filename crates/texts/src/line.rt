@@ -1,0 +1,64 @@
+// The lines of a job, each with its number.
+ghost use Rattle.std.specs.Prelude.{◌≡◌, map, IfOk, string_bytes};
+ghost use Rattle.texts.specs.Lines.{told, numbered_from, lines_before, drawn_from};
+
+use std::alloc::{AllocError, Global};
+use std::str::FromStr;
+
+// A line and its number in the job, from 1.
+#[derive(Clone, Copy)]
+pub struct Line<'a> {
+    pub number: usize,
+    pub text: &'a str,
+}
+
+// The lines of a job.
+pub fn numbered<'a>(alloc: Global, lines: &'a [String]) -> Result<Vec<Line<'a>>, AllocError>
+    ensures { IfOk result (λ v. map told v.items ≡ numbered_from 1 (map string_bytes lines.now)) }
+{
+    let mut numbered = Vec::new(alloc);
+    for (i, line) in lines.iter().enumerate() {
+        numbered.push(Line {
+            number: i + 1,
+            text: line.as_str(),
+        })?;
+    }
+    Ok(numbered)
+}
+
+// The lines, with a blank one for each line before them, so that what is drawn in them is told by the lines of the job.
+pub fn drawn_lines(alloc: Global, lines: &[Line]) -> Result<Vec<String>, AllocError>
+    ensures { IfOk result (λ v. map string_bytes v.items ≡ drawn_from lines.now) }
+{
+    let mut drawn = Vec::new(alloc);
+    for _before in 0..lines_before(lines) {
+        drawn.push(String::new(alloc))?;
+    }
+    for line in lines {
+        drawn.push(String::from_str(alloc, line.text)?)?;
+    }
+    Ok(drawn)
+}
+
+// How many lines of the job stand before these.
+fn lines_before(lines: &[Line]) -> usize
+    ensures { result ≡ lines_before lines.now }
+{
+    lines
+        .first()
+        .map_or(0, |line| line.number.saturating_sub(1))
+}
+
+impl Line<'_> {
+    // The value of a setting, where its word is followed by one word more and that is a value.
+    pub fn value<T: FromStr>(self) -> Option<T>
+    where
+        T::Err: Drop,
+    {
+        let mut words = self.text.split_whitespace();
+        match (words.next(), words.next(), words.next()) {
+            (Some(_), Some(word), None) => word.parse::<T>().ok(),
+            _ => None,
+        }
+    }
+}

@@ -1,0 +1,115 @@
+// The sheet of a job.
+ghost use Rattle.std.specs.Prelude.{◌≡◌, ◌≤◌, ◌<◌, IfOk};
+
+use crate::line::Line;
+use sheets::holder::Size;
+use std::alloc::{AllocFailed, Global};
+use std::fmt;
+use std::str::FromStr;
+
+// The longest side of a sheet that is filtered.
+const LONGEST: usize = 2048;
+
+// Why a sheet cannot be taken in.
+#[derive(Clone, Copy, PartialEq, Eq, Debug)]
+pub enum SheetFault {
+    // A word is no cell, in the line of this number.
+    NoCell(usize),
+    // The row in the line of this number has not as many cells as the first.
+    UnlikeRow(usize),
+    // The width or height is 0 or above 2,048, as the filters refuse it.
+    WrongSize(Size),
+    // There is no memory for it.
+    Memory,
+}
+
+// Why a sheet cannot be taken in, with the words for its cells.
+#[derive(Clone, Copy)]
+pub struct ToldSheetFault {
+    pub fault: SheetFault,
+    pub cells: &'static str,
+}
+
+impl fmt::Display for ToldSheetFault {
+    fn fmt<W: fmt::Write>(&self, f: &mut fmt::Formatter<W>) -> fmt::Result {
+        match self.fault {
+            SheetFault::NoCell(line) => {
+                write!(f, "line {line}: a row of the sheet has {}", self.cells)
+            }
+            SheetFault::UnlikeRow(line) => write!(
+                f,
+                "line {line}: this row has not as many cells as the first"
+            ),
+            SheetFault::WrongSize(size) => write!(
+                f,
+                "refused 9: the sheet is {} by {}; each goes from 1 to 2048",
+                size.width, size.height
+            ),
+            SheetFault::Memory => write!(f, "there is not enough memory"),
+        }
+    }
+}
+
+impl<T: Drop> From<AllocFailed<T>> for SheetFault {
+    ghost use Rattle.texts.specs.declared.sheet.SheetFault.TheVariants.{Memory};
+
+    ghost from_gives = { λ _ r. r ≡ Memory };
+
+    fn from(_e: AllocFailed<T>) -> SheetFault {
+        SheetFault::Memory
+    }
+}
+
+// Takes in a sheet: its size, within what the filters take, and its numbers row by row.
+pub fn read_sheet<T: FromStr + Drop>(
+    alloc: Global,
+    lines: &[Line],
+) -> Result<(Size, Vec<T>), SheetFault>
+where
+    T::Err: Drop,
+    ensures width { IfOk result (λ p. (1 ≤ p.0.width) × (p.0.width ≤ 2048)) }
+    ensures height { IfOk result (λ p. (1 ≤ p.0.height) × (p.0.height ≤ 2048)) }
+{
+    let mut cells = Vec::new(alloc);
+    let size = read_rows(lines, &mut cells)?;
+    if size.height == 0 || size.width > LONGEST || size.height > LONGEST {
+        return Err(SheetFault::WrongSize(size));
+    }
+    Ok((size, cells))
+}
+
+// Takes in the rows of a sheet and answers its size. A blank line is no row.
+fn read_rows<T: FromStr + Drop>(lines: &[Line], cells: &mut Vec<T>) -> Result<Size, SheetFault>
+where
+    T::Err: Drop,
+    ensures { IfOk result (λ s. 0 < s.height → 0 < s.width) }
+{
+    let mut size = Size::NONE;
+    for line in lines {
+        let width = read_row(*line, cells)?;
+        if width > 0 {
+            if size.height > 0 && width != size.width {
+                return Err(SheetFault::UnlikeRow(line.number));
+            }
+            size.width = width;
+            size.height = size.height.saturating_add(1);
+        }
+    }
+    Ok(size)
+}
+
+// Takes in a row, and answers how many cells it has.
+fn read_row<T: FromStr + Drop>(line: Line, cells: &mut Vec<T>) -> Result<usize, SheetFault>
+where
+    T::Err: Drop,
+{
+    let before = cells.len();
+    for word in line.text.split_whitespace() {
+        let cell = word
+            .parse::<T>()
+            .ok()
+            .ok_or(SheetFault::NoCell(line.number))?;
+        cells.push(cell)?;
+    }
+    Ok(cells.len().saturating_sub(before))
+}

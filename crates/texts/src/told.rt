@@ -1,0 +1,75 @@
+// What filters answer and leave, as listings tell it.
+ghost use Rattle.std.specs.Prelude.{Some};
+ghost use Rattle.std.specs.Fmt.{WritesOnOk};
+ghost use Rattle.texts.specs.Told.{table_text, refusal_text, answer_text};
+
+use cells::words::WordForm;
+use morphology::call::Answer;
+use morphology::refusal::Refusal;
+use std::fmt;
+
+// A refusal by its number, and with it what a short table needs and has.
+#[derive(Clone, Copy)]
+pub struct ToldRefusal(pub Refusal);
+
+// What a call answers.
+#[derive(Clone, Copy)]
+pub struct ToldAnswer(pub Answer);
+
+// The rows of a sheet, the northmost first, whose cells lie row by row.
+#[derive(Clone, Copy)]
+pub struct ToldRows<'a, K> {
+    pub width: usize,
+    pub cells: &'a [K],
+}
+
+impl fmt::Display for ToldRefusal {
+    ghost output = { λ t. Some (refusal_text t.0) };
+
+    fn fmt<W: fmt::Write>(&self, f: &mut fmt::Formatter<W>) -> fmt::Result {
+        let number = self.0.number();
+        write!(f, "refused {number}")?;
+        show_table(self.0, f)
+    }
+}
+
+// What a short table needs and has.
+fn show_table<W: fmt::Write>(refusal: Refusal, f: &mut fmt::Formatter<W>) -> fmt::Result
+    ensures { WritesOnOk W.write_str_gives f.old result (table_text refusal) f.new }
+{
+    match refusal {
+        Refusal::ShortTable(needed, lent) => {
+            write!(f, ", the table needs {needed} cells and has {lent}")
+        }
+        _ => Ok(()),
+    }
+}
+
+impl fmt::Display for ToldAnswer {
+    ghost output = { λ t. Some (answer_text t.0) };
+
+    fn fmt<W: fmt::Write>(&self, f: &mut fmt::Formatter<W>) -> fmt::Result {
+        match self.0 {
+            Answer::Laid => write!(f, "laid"),
+            Answer::Picks(picks) => write!(f, "{picks} picks"),
+            Answer::Refused(refusal) => {
+                let told = ToldRefusal(refusal);
+                write!(f, "{told}")
+            }
+        }
+    }
+}
+
+// Each cell stands behind a blank, by the number that its word is in two's complement.
+impl<K: WordForm> fmt::Display for ToldRows<'_, K> {
+    fn fmt<W: fmt::Write>(&self, f: &mut fmt::Formatter<W>) -> fmt::Result {
+        for row in self.cells.chunks(self.width.max(1)) {
+            write!(f, " ")?;
+            for cell in row {
+                write!(f, " {}", cell.to_word().cast_signed())?;
+            }
+            writeln!(f)?;
+        }
+        Ok(())
+    }
+}
