@@ -29,10 +29,7 @@ impl From<DrawingFault> for DrawnFault {
 pub fn mask_of(drawing: &Drawing) -> Result<Mask, DrawnFault>
     ensures { Masks drawing.now result }
 {
-    match Mask::from_points(drawing.points()) {
-        Ok(mask) => Ok(mask),
-        Err(fault) => Err(blame(drawing, fault)),
-    }
+    Mask::from_points(drawing.points()).map_err(|fault| blame(drawing, fault))
 }
 
 // The fault of a mask, with the place in the drawing of the point that is to blame.

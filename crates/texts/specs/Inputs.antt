@@ -1,9 +1,15 @@
--- Why the input gives no lines.
+-- The lines of the input, and why it gives none.
+--     LacksFeed s        the line s has no line feed
 --     input_fault k      the fault that an error of the kind k becomes
+use Rattle.std.specs.Prelude.{◌≢◌, All, String, string_bytes}
+use Rattle.std.specs.declared.alloc.Global.{Global}
 use Rattle.std.specs.declared.io.ErrorKind.{ErrorKind}
 use Rattle.std.specs.declared.io.ErrorKind.TheVariants.{OutOfMemory, InvalidData}
 use Rattle.texts.specs.declared.input.InputFault.{InputFault}
 use Rattle.texts.specs.declared.input.InputFault.TheVariants.{NoText, Unread, Memory}
+
+abbrev pub LacksFeed : String Global → Type 0
+LacksFeed s = All (λ b. b ≢ 10) (string_bytes s)
 
 abbrev pub input_fault : ErrorKind → InputFault
 input_fault OutOfMemory = Memory

@@ -1,24 +1,29 @@
 -- The line that begins a part of a job.
 --     word_of p                  the word of the part p
+--     missing_text m             that the part m is missing, byte by byte
 --     FirstWords bs r q          what the words of the line bs are, as far as the second
 --     begins p r q               a line of these words begins p
 --     Begins p bs b              b tells whether the line bs begins p
 --     Lacks p ls                 no line of ls begins p
 --     IsFirst p ls i             line i of ls is the first that begins p
 --     Cuts p ls before l behind  l is the first line of ls that begins p
-use Rattle.std.specs.Prelude.{◌≡◌, ℕ, ◌<◌, Bool, true, false, ◌&&◌, List, ◌∷◌, ◌++◌, length, None, Some, Option, bytes_eq}
+use Rattle.std.specs.Prelude.{◌≡◌, ℕ, ◌<◌, Bool, true, false, ◌&&◌, List, ◌∷◌, ◌++◌, codes, length, None, Some, Option, bytes_eq}
 use Rattle.std.specs.List.{AllWithin, HoldsAt}
 use Rattle.std.specs.Option.{is_none}
 use Rattle.std.specs.Borrow.{Bor}
 use Rattle.std.specs.Str.Iter.{split_whitespace_rest, split_whitespace_steps}
 use Rattle.std.specs.declared.str.SplitWhitespace.{SplitWhitespace}
 use Rattle.texts.specs.declared.line.Line.{Line}
+use Rattle.texts.specs.declared.part.Missing.{Missing}
 use Rattle.texts.specs.declared.part.Part.{Part}
 use Rattle.texts.specs.declared.part.Part.TheVariants.{Heading, Setting}
 
 abbrev pub word_of : Part → List ℕ
 word_of (Heading w) = w.now
 word_of (Setting w) = w.now
+
+abbrev pub missing_text : Missing → List ℕ
+missing_text m = codes "no line begins the " ++ word_of m.0
 
 -- as `split_whitespace` gives them
 abbrev pub FirstWords : List ℕ → Option (Bor (List ℕ)) → Option (Bor (List ℕ)) → Type 0

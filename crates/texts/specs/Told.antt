@@ -1,8 +1,11 @@
 -- What filters answer, as listings tell it, byte by byte.
 --     refusal_text r     a refusal
 --     answer_text a      an answer
+--     row_text f cs      a row of the cells cs, whose words f gives
 use Rattle.std.specs.Prelude.{ℕ, List, [], ◌++◌, codes}
-use Rattle.std.specs.Fmt.{decimal}
+use Rattle.std.specs.Fmt.{decimal, signed_decimal}
+use Rattle.std.specs.Int.{w32, cast_signed}
+use Rattle.std.specs.List.{flat_map}
 use Rattle.morphology.specs.Refusals.{number}
 use Rattle.morphology.specs.declared.call.Answer.{Answer}
 use Rattle.morphology.specs.declared.call.Answer.TheVariants.{Laid, Picks, Refused}
@@ -21,3 +24,10 @@ abbrev pub answer_text : Answer → List ℕ
 answer_text Laid = codes "laid"
 answer_text (Picks n) = decimal n ++ codes " picks"
 answer_text (Refused r) = refusal_text r
+
+-- each cell behind a blank, by its word with a sign
+abbrev pub cells_text : {K : Type 0} → (K → ℕ) → List K → List ℕ
+cells_text f cs = flat_map (λ c. codes " " ++ signed_decimal (cast_signed w32 (f c))) cs
+
+abbrev pub row_text : {K : Type 0} → (K → ℕ) → List K → List ℕ
+row_text f cs = codes " " ++ cells_text f cs

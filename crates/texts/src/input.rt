@@ -1,7 +1,7 @@
 // The lines of the input.
-ghost use Rattle.std.specs.Prelude.{◌≡◌};
+ghost use Rattle.std.specs.Prelude.{◌≡◌, All, IfOk};
 ghost use Rattle.std.specs.IoError.{error_kind};
-ghost use Rattle.texts.specs.Inputs.{input_fault};
+ghost use Rattle.texts.specs.Inputs.{LacksFeed, input_fault};
 
 use std::io;
 use std::io::{BufRead, BufReader, ErrorKind};
@@ -29,8 +29,20 @@ impl From<io::Error> for InputFault {
     }
 }
 
-// The lines of standard input.
-pub fn input_lines<R: Input + AllocGlobal>(rt: &R) -> Result<Vec<String>, InputFault> {
+// The lines of standard input, none of which has a line feed.
+pub fn input_lines<R: Input + AllocGlobal>(rt: &R) -> Result<Vec<String>, InputFault>
+    ensures { IfOk result (λ v. All LacksFeed v.items) }
+{
+    Ok(lines_of(rt)?)
+}
+
+fn lines_of<R: Input + AllocGlobal>(rt: &R) -> io::Result<Vec<String>>
+    ensures { IfOk result (λ v. All LacksFeed v.items) }
+{
     let reader = BufReader::new(rt.alloc(), rt.reader())?;
-    Ok(reader.lines(rt.alloc()).try_collect(rt.alloc())?)
+    let mut lines = Vec::new(rt.alloc());
+    for line in reader.lines(rt.alloc()) {
+        lines.push(line?)?;
+    }
+    Ok(lines)
 }

@@ -1,6 +1,6 @@
 // The parts of a job, each begun by a line.
-ghost use Rattle.std.specs.Prelude.{◌≡◌, MatchOption, MatchResult};
-ghost use Rattle.texts.specs.Parts.{word_of, Begins, Lacks, IsFirst, Cuts};
+ghost use Rattle.std.specs.Prelude.{◌≡◌, MatchOption, MatchResult, Some};
+ghost use Rattle.texts.specs.Parts.{word_of, missing_text, Begins, Lacks, IsFirst, Cuts};
 
 use crate::line::Line;
 use std::fmt;
@@ -63,7 +63,10 @@ impl Part {
 }
 
 impl fmt::Display for Missing {
+    ghost output = { λ m. Some (missing_text m) };
+
     fn fmt<W: fmt::Write>(&self, f: &mut fmt::Formatter<W>) -> fmt::Result {
-        write!(f, "no line begins the {}", self.0.word())
+        let word = self.0.word();
+        write!(f, "no line begins the {word}")
     }
 }

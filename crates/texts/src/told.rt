@@ -1,7 +1,7 @@
 // What filters answer and leave, as listings tell it.
 ghost use Rattle.std.specs.Prelude.{Some};
 ghost use Rattle.std.specs.Fmt.{WritesOnOk};
-ghost use Rattle.texts.specs.Told.{table_text, refusal_text, answer_text};
+ghost use Rattle.texts.specs.Told.{table_text, refusal_text, answer_text, row_text};
 
 use cells::words::WordForm;
 use morphology::call::Answer;
@@ -15,6 +15,10 @@ pub struct ToldRefusal(pub Refusal);
 // What a call answers.
 #[derive(Clone, Copy)]
 pub struct ToldAnswer(pub Answer);
+
+// A row of a sheet, each cell by the number that its word is in two's complement.
+#[derive(Clone, Copy)]
+pub struct ToldRow<'a, K>(pub &'a [K]);
 
 // The rows of a sheet, the northmost first, whose cells lie row by row.
 #[derive(Clone, Copy)]
@@ -60,15 +64,24 @@ impl fmt::Display for ToldAnswer {
     }
 }
 
-// Each cell stands behind a blank, by the number that its word is in two's complement.
+impl<K: WordForm> fmt::Display for ToldRow<'_, K> {
+    ghost output = { λ r. Some (row_text K.writes r.0.now) };
+
+    fn fmt<W: fmt::Write>(&self, f: &mut fmt::Formatter<W>) -> fmt::Result {
+        write!(f, " ")?;
+        for cell in self.0 {
+            let number = cell.to_word().cast_signed();
+            write!(f, " {number}")?;
+        }
+        Ok(())
+    }
+}
+
 impl<K: WordForm> fmt::Display for ToldRows<'_, K> {
     fn fmt<W: fmt::Write>(&self, f: &mut fmt::Formatter<W>) -> fmt::Result {
         for row in self.cells.chunks(self.width.max(1)) {
-            write!(f, " ")?;
-            for cell in row {
-                write!(f, " {}", cell.to_word().cast_signed())?;
-            }
-            writeln!(f)?;
+            let told = ToldRow(row);
+            writeln!(f, "{told}")?;
         }
         Ok(())
     }
