@@ -50,7 +50,7 @@ impl Measured for Height {
     }
 }
 
-// Half of the sum, rounded down; the sum itself may want 33 bits.
+// Half of the sum, rounded down, where the library's midpoint rounds towards zero; the sum itself may want 33 bits.
 fn half_of_sum(a: i32, b: i32) -> i32
     ensures { result ≡ half_down (a +ℤ b) }
 {

@@ -9,4 +9,5 @@ mod Erosions
 mod Verdicts
 mod Notes
 mod Hits
+mod Courses
 mod Sights

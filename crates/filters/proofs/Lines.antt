@@ -6,7 +6,7 @@ use Rattle.cells.specs.Lattice.{Lattice, Under}
 use Rattle.masks.specs.Cost.{line_picks}
 use Rattle.sheets.specs.Sheet.{Sheet}
 use Rattle.plans.specs.declared.plan.Plan.{Plan}
-use Rattle.plans.specs.Plan.{Sound, length_of}
+use Rattle.plans.specs.Plan.{length_of}
 use Rattle.filters.specs.Line.{or_else, place, held, Runs, Holds}
 use Rattle.filters.proofs.Bests.{best_same, best_one, best_at, best_runs}
 use Rattle.filters.proofs.Rooms.{part_room}
@@ -24,20 +24,20 @@ runs_first k f p w t start e i h c l =
     (best_at k _ _ _ (ap (held k f t) at0) (best_one k (held k f t (start + (c + 0)))))
 
 -- one length more
-pub runs_more : {K C : Type 0} (k : Lattice C) (f : K → C) (G : ℕ → C → Type 0) (p : Plan) (w : ℕ) (old new : List K) (start i : ℕ) → Sound p → 1 ≤ i → i < p.sizes →
+pub runs_more : {K C : Type 0} (k : Lattice C) (f : K → C) (G : ℕ → C → Type 0) (p : Plan) (w : ℕ) (old new : List K) (start i : ℕ) → 1 ≤ i → i < length p.lengths →
     ((c : ℕ) → c < w + 30 + 1 - length_of p i → held k f new (start + i * (w + 30) + c) ≡ k.meet (held k f old (start + (i - 1) * (w + 30) + c)) (held k f old (start + (i - 1) * (w + 30) + c + (length_of p i - length_of p (i - 1))))) →
     ((x : ℕ) → x < start + i * (w + 30) → held k f new x ≡ held k f old x) →
     Runs k f G p w old start i → Runs k f G p w new start (i + 1)
-runs_more k f G p w old new start i r i1 ip built kept R =
+runs_more k f G p w old new start i i1 ip built kept R =
     below_more _ _
     (λ i' h c l.
     let room = part_room i' i (w + 30) h in
-    let low = r.low i' (omega arith) in
+    let low = p.sound.low i' (omega arith) in
     let lt : start + i' * (w + 30) + c < start + i * (w + 30) = omega (arith, room, low) in
     best_at k _ _ _ (kept (start + i' * (w + 30) + c) lt) (R i' h c l))
     (λ c l.
-    let up = r.climbs i i1 ip in
-    let two = r.doubles i i1 ip in
+    let up = p.sound.climbs i i1 ip in
+    let two = p.sound.doubles i i1 ip in
     let d = length_of p i - length_of p (i - 1) in
     let b : i - 1 < i = omega arith in
     let lc : c < w + 30 + 1 - length_of p i = omega arith in
@@ -60,9 +60,9 @@ runs_same k f G G' p w t start n to from R i h c l =
 -- runs over a line that was loaded from the sheet
 pub runs_holds : {K C : Type 0} (k : Lattice C) (f : K → C) (z : C) (s : Sheet K) (p : Plan) (w : ℕ) (mid t : List K) (start l : ℕ) →
     ((i : ℕ) → i < w + 30 → held k f mid (start + i) ≡ or_else f z (place s p.above i l)) →
-    Runs k f (λ x a. Under k a (held k f mid (start + x))) p w t start p.sizes → Holds k f z s p w t start l
+    Runs k f (λ x a. Under k a (held k f mid (start + x))) p w t start (length p.lengths) → Holds k f z s p w t start l
 runs_holds k f z s p w mid t start l e =
-    runs_same k f _ _ p w t start p.sizes
+    runs_same k f _ _ p w t start (length p.lengths)
     (λ x a h u. subst (Under k a) (e x h) u)
     (λ x a h u. subst (Under k a) (sym (e x h)) u)
 

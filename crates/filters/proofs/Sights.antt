@@ -1,7 +1,6 @@
 -- What the picks over both masks say of a place: a point that sees no cell spoils the hit.
-use Rattle.std.proofs.Common.{◌≡◌, ℕ, ◌+◌, ◌-◌, ◌<◌, ◌≤◌, true, ◌↔◌, List, map, length, get_or, drop, slice_range, ◌+ℤ◌, pos, is_some, Some, None, Option, sym, refl, ap, ◌∙◌, subst, inr, arith}
+use Rattle.std.proofs.Common.{◌≡◌, ℕ, ◌+◌, ◌<◌, true, ◌↔◌, List, map, ◌+ℤ◌, pos, is_some, Some, None, Option, sym, refl, ◌∙◌, subst, inr, arith}
 use Rattle.std.proofs.lemmas.Bool.Decides.{nat_tests}
-use Rattle.std.proofs.lemmas.List.{get_or-take, get_or-drop, get_or_default, take-map, drop-map, length-map, length-drop, length-take-le}
 use Rattle.std.specs.Option.{option_map}
 use Rattle.cells.specs.Lattice.{Lattice, Under, Above, dual}
 use Rattle.masks.specs.declared.point.Point.{Point}
@@ -80,29 +79,11 @@ has_inside f s W x y e =
     let m : y < s.height = grind (arith, nat_tests) in
     (l, m)
 
--- a part of the table, entry by entry
-pub part_at : {K C : Type 0} (f : K → C) (z z' : C) (t : List K) (a w x : ℕ) → x < w → a + w ≤ length t → cell_at f z (slice_range t a (a + w)) x ≡ cell_at f z' t (a + x)
-part_at f z z' t a w x h l =
-    let n : x < a + w - a = omega arith in
-    let long : a + x < length (map f t) = (rw length-map (omega arith)) in
-    ap (λ xs. get_or xs x z) (sym (take-map f (a + w - a) (drop a t)))
-    ∙ get_or-take (a + w - a) (map f (drop a t)) x z n
-    ∙ ap (λ xs. get_or xs x z) (sym (drop-map f a t))
-    ∙ get_or-drop a (map f t) x z
-    ∙ get_or_default (map f t) (a + x) z z' long
-
-pub part_long : {K : Type 0} (t : List K) (a w : ℕ) → a + w ≤ length t → length (slice_range t a (a + w)) ≡ w
-part_long t a w l =
-    let d : length (drop a t) ≡ length t - a = length-drop a t in
-    length-take-le (a + w - a) (drop a t) (omega arith) ∙ (omega arith)
-
 -- the two picks of a row say where its hits are
 pub row_says : {K C : Type 0} (k : Lattice C) (f : K → C) (s : Sheet K) (p q : Plan) (ps qs : List Point) → Spells p ps → Spells q qs → Whole s →
-    (u v : C) → u ≡ k.least → v ≡ k.greatest → (t r fores backs : List K) (a b w y : ℕ) → w ≡ s.width → y < s.height → a + w ≤ length t → b + w ≤ length r →
-    fores ≡ slice_range t a (a + w) → backs ≡ slice_range r b (b + w) →
-    Gathered k f u s p w t a y → Gathered (dual k) f v s q w r b y →
+    (t r fores backs : List K) (a b w y : ℕ) → w ≡ s.width → y < s.height →
+    ((x : ℕ) → x < w → cell_at f k.least fores x ≡ held k f t (a + x)) → ((x : ℕ) → x < w → cell_at f k.greatest backs x ≡ held (dual k) f r (b + x)) →
+    Gathered k f k.least s p w t a y → Gathered (dual k) f k.greatest s q w r b y →
     (x : ℕ) → x < w → Above k (cell_at f k.least fores x) (cell_at f k.greatest backs x) ↔ Hit k ps qs (shown f s) x y
-row_says k f s p q ps qs P Q W u v eu ev t r fores backs a b w y ew hy la lb ef eb G H x h =
-    hit_here k f s p q ps qs P Q x y _ _ (inside_has f s W x y (omega (arith, ew)) hy)
-    (best_at k _ _ _ (ap (λ l. cell_at f k.least l x) ef ∙ part_at f k.least k.greatest t a w x h la) (subst (λ z. Best k (Through k f z s p x y) (held k f t (a + x))) eu (G x h)))
-    (best_at (dual k) _ _ _ (ap (λ l. cell_at f k.greatest l x) eb ∙ part_at f k.greatest k.least r b w x h lb) (subst (λ z. Best (dual k) (Through (dual k) f z s q x y) (held (dual k) f r (b + x))) ev (H x h)))
+row_says k f s p q ps qs P Q W t r fores backs a b w y ew hy F B G H x h =
+    hit_here k f s p q ps qs P Q x y _ _ (inside_has f s W x y (omega (arith, ew)) hy) (best_at k _ _ _ (F x h) (G x h)) (best_at (dual k) _ _ _ (B x h) (H x h))

@@ -6,7 +6,7 @@
 --     held k f table x            what entry x of the table means
 --     Runs k f G p w t start n    the entries of the first n lengths are the greatest lower bounds of their runs
 --     Holds k f z s p w t start l the entries from start on are those of line l of the sheet s, places without a cell standing as z
-use Rattle.std.specs.Prelude.{ℕ, ◌+◌, ◌-◌, ◌*◌, ◌<◌, ◌≤◌, cond, ◌||◌, List, Some, None, Option, nat_lt}
+use Rattle.std.specs.Prelude.{ℕ, ◌+◌, ◌-◌, ◌*◌, ◌<◌, ◌≤◌, cond, ◌||◌, List, length, Some, None, Option, nat_lt}
 use Rattle.cells.specs.Lattice.{Lattice, Under}
 use Rattle.sheets.specs.Sheet.{Sheet}
 use Rattle.plans.specs.declared.plan.Plan.{Plan}
@@ -43,4 +43,4 @@ Runs k f G p w table start n =
 
 -- the runs are those of the cells of line l
 abbrev pub Holds : {K C : Type 0} → Lattice C → (K → C) → C → Sheet K → Plan → ℕ → List K → ℕ → ℕ → Type 0
-Holds k f z s p w table start l = Runs k f (λ x a. UnderAt k f z a (place s p.above x l)) p w table start p.sizes
+Holds k f z s p w table start l = Runs k f (λ x a. UnderAt k f z a (place s p.above x l)) p w table start (length p.lengths)

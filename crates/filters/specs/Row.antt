@@ -3,10 +3,10 @@
 --     base_of rows n stride oldest c  where the run of chord c for column 0 stands
 --     run_of f z t p stride oldest x q   what chord q gives at column x
 --     picked k F n                    the pick of F 0 to F n
-use Rattle.std.specs.Prelude.{ℕ, zero, suc, ◌+◌, ◌-◌, ◌*◌, cond, List, nat_lt}
+use Rattle.std.specs.Prelude.{ℕ, zero, suc, ◌+◌, ◌-◌, ◌*◌, cond, List, length, nat_lt}
 use Rattle.cells.specs.Lattice.{Lattice}
 use Rattle.plans.specs.declared.plan.Plan.{Plan}
-use Rattle.plans.specs.declared.plan.PlannedChord.{PlannedChord}
+use Rattle.plans.specs.declared.placed.PlannedChord.{PlannedChord}
 use Rattle.plans.specs.Plan.{chord_of}
 use Rattle.filters.specs.Side.{cell_at}
 
@@ -20,7 +20,7 @@ base_of rows n stride oldest c = (slot_of rows oldest c.row * n + c.index) * str
 
 -- what chord q of the plan gives at column x
 abbrev pub run_of : {K C : Type 0} → (K → C) → C → List K → Plan → ℕ → ℕ → ℕ → ℕ → C
-run_of f z table p stride oldest x q = cell_at f z table (base_of p.rows p.sizes stride oldest (chord_of p q) + x)
+run_of f z table p stride oldest x q = cell_at f z table (base_of p.rows (length p.lengths) stride oldest (chord_of p q) + x)
 
 -- the pick of F 0, F 1 .. F n, from the left
 abbrev pub picked : {C : Type 0} → Lattice C → (ℕ → C) → ℕ → C

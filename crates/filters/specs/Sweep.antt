@@ -6,13 +6,16 @@
 --     Mixed k f p w s t y           the rows of t before y are results, the others are those of s
 --     next_slot rows slot           the slot after a slot of the ring
 --     Ring k f z s p w t slot line n  the last n lines before `line` stand in the ring, and `line` is due at `slot`
+--     Stands k f c s t slot line n  the same, by a course
 --     Gathered k f z s p w t start y  from start on, the table has what the chords show in row y
-use Rattle.std.specs.Prelude.{◌≡◌, ℕ, ◌+◌, ◌-◌, ◌*◌, ◌<◌, ◌≤◌, cond, List, Some, Option, nat_lt}
+--     Laid k f c s t start y        the same, by a course
+use Rattle.std.specs.Prelude.{◌≡◌, ℕ, ◌+◌, ◌-◌, ◌*◌, ◌<◌, ◌≤◌, cond, List, length, Some, Option, nat_lt}
 use Rattle.std.specs.Option.{option_map}
 use Rattle.cells.specs.Lattice.{Lattice}
 use Rattle.sheets.specs.Sheet.{Sheet}
 use Rattle.plans.specs.declared.plan.Plan.{Plan}
 use Rattle.plans.specs.Plan.{chord_of, long}
+use Rattle.filters.specs.declared.course.Course.{Course}
 use Rattle.filters.specs.Side.{Best}
 use Rattle.filters.specs.Line.{place, UnderAt, held, Holds}
 use Rattle.filters.specs.Row.{slot_of}
@@ -23,7 +26,7 @@ Along k f z s p x y q a =
     (j : ℕ) → j < long p q → UnderAt k f z a (place s p.above ((chord_of p q).column + x + j) (y + (chord_of p q).row))
 
 abbrev pub Through : {K C : Type 0} → Lattice C → (K → C) → C → Sheet K → Plan → ℕ → ℕ → C → Type 0
-Through k f z s p x y a = (q : ℕ) → q < p.count → Along k f z s p x y q a
+Through k f z s p x y a = (q : ℕ) → q < length p.chords.items → Along k f z s p x y q a
 
 -- a place of the result
 abbrev pub ErodedAt : {K C : Type 0} → Lattice C → (K → C) → Sheet K → Plan → ℕ → ℕ → Option K → Type 0
@@ -47,8 +50,15 @@ next_slot rows slot = cond (nat_lt (slot + 1) rows) (slot + 1) 0
 abbrev pub Ring : {K C : Type 0} → Lattice C → (K → C) → C → Sheet K → Plan → ℕ → List K → ℕ → ℕ → ℕ → Type 0
 Ring k f z s p w table slot line n =
     (l : ℕ) → l < line → line ≤ l + n →
-    Holds k f z s p w table (slot_of p.rows slot (l + p.rows - line) * p.sizes * (w + 30)) l
+    Holds k f z s p w table (slot_of p.rows slot (l + p.rows - line) * length p.lengths * (w + 30)) l
+
+-- places without a cell stand as the course's padding
+abbrev pub Stands : {K C : Type 0} → Lattice C → (K → C) → Course K → Sheet K → List K → ℕ → ℕ → ℕ → Type 0
+Stands k f c s table slot line n = Ring k f (f c.pad) s c.plan c.width table slot line n
 
 -- entry x is the greatest lower bound of all that the chords show at (x, y)
 abbrev pub Gathered : {K C : Type 0} → Lattice C → (K → C) → C → Sheet K → Plan → ℕ → List K → ℕ → ℕ → Type 0
 Gathered k f z s p w table start y = (x : ℕ) → x < w → Best k (Through k f z s p x y) (held k f table (start + x))
+
+abbrev pub Laid : {K C : Type 0} → Lattice C → (K → C) → Course K → Sheet K → List K → ℕ → ℕ → Type 0
+Laid k f c s table start y = Gathered k f (f c.pad) s c.plan c.width table start y

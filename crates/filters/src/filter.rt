@@ -6,7 +6,7 @@ ghost use Rattle.sheets.specs.Sheet.{shown};
 ghost use Rattle.morphology.specs.Calls.{sheet_by};
 ghost use Rattle.morphology.specs.Refusals.{fits, judged};
 ghost use Rattle.morphology.specs.declared.call.Filter.TheVariants.{Erode, Dilate};
-ghost use Rattle.plans.specs.Plan.{Sound, PlanOf};
+ghost use Rattle.plans.specs.Plan.{PlanOf};
 ghost use Rattle.filters.specs.Side.{side};
 ghost use Rattle.filters.specs.Calls.{verdict, answered, eroded_by, WhereRefused};
 
@@ -28,7 +28,7 @@ where
     ensures refused { WhereRefused (verdict (H.Holder.sheet holder.old) mask.now (length table.old)) ((H.Holder.sheet holder.new ≡ H.Holder.sheet holder.old) × (table.new ≡ table.old)) }
     ensures table { length table.new ≡ length table.old }
 {
-    filter::<H, Meets>(holder, &Plan::of(mask), table)
+    filter::<H, Meets>(holder, Plan::of(mask), table)
 }
 
 // Dilates the sheet under the mask, likewise: an erosion on the other side of the lattice, under the turned mask.
@@ -40,38 +40,36 @@ where
     ensures refused { WhereRefused (verdict (H.Holder.sheet holder.old) mask.now (length table.old)) ((H.Holder.sheet holder.new ≡ H.Holder.sheet holder.old) × (table.new ≡ table.old)) }
     ensures table { length table.new ≡ length table.old }
 {
-    filter::<H, Joins>(holder, &Plan::of_turned(mask), table)
+    filter::<H, Joins>(holder, Plan::of_turned(mask), table)
 }
 
 // Erodes the sheet on the side S, for any mask and points that the plan is for.
 fn filter<H: Holder, S: Side>(
     holder: &mut H,
-    plan: &Plan,
+    plan: Plan,
     table: &mut [H::Cell],
 ) -> Result<u64, Refusal>
 where
     H::Cell: Kind,
-    requires { Sound plan.now }
-    ensures answer { (m : Mask) (ps : List Point) → PlanOf m.rows ps plan.now → result ≡ answered (H.Holder.sheet holder.old) m (length table.old) }
-    ensures after { (m : Mask) (ps : List Point) → PlanOf m.rows ps plan.now → shown H.Cell.Kind.means (H.Holder.sheet holder.new) ≡ eroded_by (verdict (H.Holder.sheet holder.old) m (length table.old)) (side S.Side.lower H.Cell.Kind.lattice) ps (shown H.Cell.Kind.means (H.Holder.sheet holder.old)) }
-    ensures refused { (m : Mask) (ps : List Point) → PlanOf m.rows ps plan.now → WhereRefused (verdict (H.Holder.sheet holder.old) m (length table.old)) ((H.Holder.sheet holder.new ≡ H.Holder.sheet holder.old) × (table.new ≡ table.old)) }
+    ensures answer { (m : Mask) (ps : List Point) → PlanOf m.rows ps plan → result ≡ answered (H.Holder.sheet holder.old) m (length table.old) }
+    ensures after { (m : Mask) (ps : List Point) → PlanOf m.rows ps plan → shown H.Cell.Kind.means (H.Holder.sheet holder.new) ≡ eroded_by (verdict (H.Holder.sheet holder.old) m (length table.old)) (side S.Side.lower H.Cell.Kind.lattice) ps (shown H.Cell.Kind.means (H.Holder.sheet holder.old)) }
+    ensures refused { (m : Mask) (ps : List Point) → PlanOf m.rows ps plan → WhereRefused (verdict (H.Holder.sheet holder.old) m (length table.old)) ((H.Holder.sheet holder.new ≡ H.Holder.sheet holder.old) × (table.new ≡ table.old)) }
 {
     let size = holder.size();
-    admit(size, plan, table.len())?;
-    Ok(sweep::<H, S>(holder, plan, table, size.width, size.height))
+    admit(size, &plan, table.len())?;
+    Ok(sweep::<H, S>(holder, plan, table, size))
 }
 
 // Whether a filter of a sheet of the size goes ahead by the plan with a table of so many cells, or why not: first the size is
 // tried, then the table.
 pub(crate) fn admit(size: Size, plan: &Plan, cells: usize) -> Result<(), Refusal>
-    requires { Sound plan.now }
     ensures verdict { (m : Mask) (ps : List Point) → PlanOf m.rows ps plan.now → MatchResult result (λ _. judged size.width size.height (Some m) cells ≡ Ok m) (λ r. judged size.width size.height (Some m) cells ≡ Err r) }
-    ensures room { IfOk result (λ _. ((1 ≤ size.width) × (size.width ≤ 2048)) × ((1 ≤ size.height) × (size.height ≤ 2048)) × (plan.now.rows * plan.now.sizes * (size.width + 30) ≤ cells)) }
+    ensures room { IfOk result (λ _. ((1 ≤ size.width) × (size.width ≤ 2048)) × ((1 ≤ size.height) × (size.height ≤ 2048)) × (plan.now.rows * length plan.now.lengths * (size.width + 30) ≤ cells)) }
 {
     if !can_filter(size) {
         return Err(Refusal::WrongSize(size));
     }
-    let needs = plan.rows * plan.sizes * (size.width + 30);
+    let needs = plan.rows * plan.lengths.as_slice().len() * (size.width + 30);
     if cells < needs {
         return Err(Refusal::ShortTable(needs, cells));
     }

@@ -1,24 +1,24 @@
 // Find: the places where all that the fore mask sees stands above all that the back mask sees.
-ghost use Rattle.std.specs.Prelude.{◌≡◌, ℕ, ◌+◌, ◌-◌, ◌*◌, ◌<◌, ◌≤◌, List, length, take, slice_range, slice_set, Decides};
+ghost use Rattle.std.specs.Prelude.{◌≡◌, ℕ, ◌+◌, ◌-◌, ◌*◌, ◌<◌, ◌≤◌, List, length, slice_set, Decides};
 ghost use Rattle.cells.specs.Lattice.{Above};
 ghost use Rattle.masks.specs.Cost.{line_picks};
 ghost use Rattle.masks.specs.declared.point.Point.{Point};
 ghost use Rattle.sheets.specs.Sheet.{shown};
 ghost use Rattle.morphology.specs.Refusals.{judged_find};
 ghost use Rattle.morphology.specs.Find.{HitList};
-ghost use Rattle.plans.specs.Plan.{Sound, Spells};
+ghost use Rattle.plans.specs.Plan.{Spells};
 ghost use Rattle.filters.specs.Calls.{WhereRefused};
 ghost use Rattle.filters.specs.Find.{note, listed, RowHits, Found};
 
 use crate::filter::admit;
-use crate::ring::{first_lines, next, next_row};
+use crate::ring::Ring;
 use crate::side::{Joins, Meets};
 use cells::kind::{Kind, Ranked};
 use masks::mask::Mask;
 use morphology::place::Place;
 use morphology::refusal::Refusal;
 use plans::plan::Plan;
-use sheets::holder::Holder;
+use sheets::holder::{Holder, Size};
 
 // Finds every place on the sheet from which all points of both masks see a cell, and the least cell under the fore mask lies
 // strictly above the greatest under the back mask: in the field's words, a hit-or-miss transform. The earliest of them in row
@@ -44,65 +44,44 @@ where
     admit(size, &fore_plan, fore_table.len())?;
     admit(size, &back_plan, back_table.len())?;
     Ok(scan(
-        holder,
-        &fore_plan,
-        &back_plan,
-        fore_table,
-        back_table,
-        places,
-        size.width,
-        size.height,
+        holder, fore_plan, back_plan, fore_table, back_table, places, size,
     ))
 }
 
 // Goes through the rows, lists the hits and answers how many there are, and the picks made. A place without a cell stands as
-// the least cell under the fore mask and as the greatest under the back mask, so no hit sees one.
+// the least cell under the fore mask and as the greatest under the back mask, so no hit sees one. A holder is asked for its
+// rows by number.
 fn scan<H: Holder>(
     h: &H,
-    fore: &Plan,
-    back: &Plan,
+    fore: Plan,
+    back: Plan,
     fore_table: &mut [H::Cell],
     back_table: &mut [H::Cell],
     places: &mut [Place],
-    w: usize,
-    height: usize,
+    size: Size,
 ) -> (usize, u64)
 where
     H::Cell: Ranked,
-    requires size { (w ≤ 2048) × ((height ≤ 2048) × ((w ≡ (H.Holder.sheet h.now).width) × (height ≡ (H.Holder.sheet h.now).height))) }
-    requires some { 1 ≤ w }
-    requires fore { Sound fore.now × (fore.now.rows * fore.now.sizes * (w + 30) ≤ length fore_table.old) }
-    requires back { Sound back.now × (back.now.rows * back.now.sizes * (w + 30) ≤ length back_table.old) }
-    ensures picks { result.1 ≡ (height + fore.now.rows - 1) * line_picks w (take fore.now.sizes fore.now.lengths) + height * (w * (fore.now.count - 1)) + ((height + back.now.rows - 1) * line_picks w (take back.now.sizes back.now.lengths) + height * (w * (back.now.count - 1))) }
-    ensures hits { (fores backs : List Point) → Spells fore.now fores → Spells back.now backs → (hits : List Place) × HitList H.Cell.Kind.lattice fores backs (shown H.Cell.Kind.means (H.Holder.sheet h.now)) hits × (result.0 ≡ length hits) × (places.new ≡ listed hits places.old) }
+    requires size { (size.width ≤ 2048) × ((size.height ≤ 2048) × ((size.width ≡ (H.Holder.sheet h.now).width) × (size.height ≡ (H.Holder.sheet h.now).height))) }
+    requires some { 1 ≤ size.width }
+    requires fore { fore.rows * length fore.lengths * (size.width + 30) ≤ length fore_table.old }
+    requires back { back.rows * length back.lengths * (size.width + 30) ≤ length back_table.old }
+    ensures picks { result.1 ≡ (size.height + fore.rows - 1) * line_picks size.width fore.lengths + size.height * (size.width * (length fore.chords.items - 1)) + ((size.height + back.rows - 1) * line_picks size.width back.lengths + size.height * (size.width * (length back.chords.items - 1))) }
+    ensures hits { (fores backs : List Point) → Spells fore fores → Spells back backs → (hits : List Place) × HitList H.Cell.Kind.lattice fores backs (shown H.Cell.Kind.means (H.Holder.sheet h.now)) hits × (result.0 ≡ length hits) × (places.new ≡ listed hits places.old) }
 {
     let least = H::Cell::least();
     let greatest = H::Cell::greatest();
-    let mut picks = first_lines::<H, Meets>(h, fore, w, least, fore_table);
-    picks += first_lines::<H, Joins>(h, back, w, greatest, back_table);
-    let mut fore_slot = fore.rows - 1;
-    let mut back_slot = back.rows - 1;
+    let mut fore = Ring::new(fore, size.width, least);
+    let mut back = Ring::new(back, size.width, greatest);
+    let mut picks = fore.first_lines::<H, Meets>(h, fore_table);
+    picks += back.first_lines::<H, Joins>(h, back_table);
     let mut hits = 0;
-    for y in 0..height {
-        picks += next_row::<H, Meets>(h, fore, y, w, least, fore_table, fore_slot);
-        picks += next_row::<H, Joins>(h, back, y, w, greatest, back_table, back_slot);
-        fore_slot = next(fore_slot, fore.rows);
-        back_slot = next(back_slot, back.rows);
-        let fores = row_at(fore, w, fore_table, fore_slot);
-        let backs = row_at(back, w, back_table, back_slot);
-        hits = list_row(y, fores, backs, places, hits);
+    for y in 0..size.height {
+        picks += fore.next_row::<H, Meets>(h, y, fore_table);
+        picks += back.next_row::<H, Joins>(h, y, back_table);
+        hits = list_row(y, fore.row(fore_table), back.row(back_table), places, hits);
     }
     (hits, picks)
-}
-
-// The row that was gathered in a slot.
-fn row_at<'a, K: Kind>(plan: &Plan, w: usize, table: &'a [K], slot: usize) -> &'a [K]
-    requires sizes { (w ≤ 2048) × ((slot < plan.now.rows) × (plan.now.rows * plan.now.sizes * (w + 30) ≤ length table.now)) }
-    requires plan { Sound plan.now }
-    ensures { result.now ≡ slice_range table.now (slot * plan.now.sizes * (w + 30)) (slot * plan.now.sizes * (w + 30) + w) }
-{
-    let start = slot * plan.sizes * (w + 30);
-    &table[start..start + w]
 }
 
 // Lists the columns of row `y` in which the fore pick lies strictly above the back pick, after the hits listed before, and
@@ -119,8 +98,8 @@ fn list_row<K: Ranked>(
     ensures hits { (qs : List Place) × RowHits K.Kind.lattice K.Kind.means y fores.now backs.now (length fores.now) qs × (result ≡ before + length qs) × (places.new ≡ note before qs places.old) }
 {
     let mut hits = before;
-    for x in 0..fores.len() {
-        if is_hit(fores[x], backs[x]) {
+    for (x, fore) in fores.iter().enumerate() {
+        if is_hit(*fore, backs[x]) {
             write(places, hits, Place { x, y });
             hits += 1;
         }

@@ -10,6 +10,9 @@ pub mod find;
 // The two sides of a lattice: what is picked, and what stands where there is no cell.
 mod side;
 
+// What a filter goes by.
+mod course;
+
 // The lines of the table.
 mod line;
 

@@ -1,11 +1,12 @@
 // The ring of table lines, and the rows that are gathered from it.
-ghost use Rattle.std.specs.Prelude.{◌≡◌, ℕ, ◌+◌, ◌-◌, ◌*◌, ◌<◌, ◌≤◌, length, take};
+ghost use Rattle.std.specs.Prelude.{◌≡◌, ℕ, ◌+◌, ◌-◌, ◌*◌, ◌<◌, ◌≤◌, length, slice_range};
 ghost use Rattle.masks.specs.Cost.{line_picks};
 ghost use Rattle.sheets.specs.Sheet.{Sheet};
-ghost use Rattle.plans.specs.Plan.{Sound};
 ghost use Rattle.filters.specs.Side.{side};
-ghost use Rattle.filters.specs.Sweep.{SameFrom, next_slot, Ring, Gathered};
+ghost use Rattle.filters.specs.Line.{held, Holds};
+ghost use Rattle.filters.specs.Sweep.{SameFrom, next_slot, Stands, Laid};
 
+use crate::course::Course;
 use crate::line::take_line;
 use crate::row::gather;
 use crate::side::Side;
@@ -13,57 +14,103 @@ use cells::kind::Kind;
 use plans::plan::Plan;
 use sheets::holder::Holder;
 
-// Takes the lines before those that complete a row, V - 1 of them, each into the slot of its number, and answers the picks
-// made. A place without a cell stands as the padding.
-pub(crate) fn first_lines<H: Holder, S: Side>(
-    h: &H,
-    plan: &Plan,
-    w: usize,
-    pad: H::Cell,
-    table: &mut [H::Cell],
-) -> u64
-where
-    H::Cell: Kind,
-    requires sizes { (w ≤ 2048) × (plan.now.rows * plan.now.sizes * (w + 30) ≤ length table.old) }
-    requires plan { Sound plan.now }
-    ensures few { result ≤ 30 * 64418 }
-    ensures picks { result ≡ (plan.now.rows - 1) * line_picks w (take plan.now.sizes plan.now.lengths) }
-    ensures ring { Ring (side S.Side.lower H.Cell.Kind.lattice) H.Cell.Kind.means (H.Cell.Kind.means pad) (H.Holder.sheet h.now) plan.now w table.new (plan.now.rows - 1) (plan.now.rows - 1) (plan.now.rows - 1) }
-{
-    let mut picks = 0;
-    for line in 0..plan.rows - 1 {
-        picks += take_line::<H, S>(h, plan, line, w, pad, table, line * plan.sizes * (w + 30));
-    }
-    picks
+// The slots of a chord table, V of them, and the one in which the next line is due. The table itself is lent to each call: a
+// ring that kept it would have to promise in each that it still keeps the same, and as long.
+#[derive(Drop)]
+pub(crate) struct Ring<K> {
+    pub(crate) course: Course<K>,
+    pub(crate) slot: usize,
+    ghost due: { slot < course.plan.rows },
 }
 
-// Takes the line that completes row `y` into the slot, gathers the row in the slot after it, and answers the picks made.
-// Rows of the sheet before row `y` are not read.
-pub(crate) fn next_row<H: Holder, S: Side>(
-    h: &H,
-    plan: &Plan,
-    y: usize,
-    w: usize,
-    pad: H::Cell,
-    table: &mut [H::Cell],
-    slot: usize,
-) -> u64
-where
-    H::Cell: Kind,
-    requires sizes { (w ≤ 2048) × ((y ≤ 2048) × ((slot < plan.now.rows) × (plan.now.rows * plan.now.sizes * (w + 30) ≤ length table.old))) }
-    requires plan { Sound plan.now }
-    ensures few { result ≤ 64418 + 2048 * 495 }
-    ensures picks { result ≡ line_picks w (take plan.now.sizes plan.now.lengths) + w * (plan.now.count - 1) }
-    ensures row { (s : Sheet H.Cell) → SameFrom y s (H.Holder.sheet h.now) → Ring (side S.Side.lower H.Cell.Kind.lattice) H.Cell.Kind.means (H.Cell.Kind.means pad) s plan.now w table.old slot (y + plan.now.rows - 1) (plan.now.rows - 1) → Gathered (side S.Side.lower H.Cell.Kind.lattice) H.Cell.Kind.means (H.Cell.Kind.means pad) s plan.now w table.new (next_slot plan.now.rows slot * plan.now.sizes * (w + 30)) y × Ring (side S.Side.lower H.Cell.Kind.lattice) H.Cell.Kind.means (H.Cell.Kind.means pad) s plan.now w table.new (next_slot plan.now.rows slot) (y + plan.now.rows) (plan.now.rows - 1) }
-{
-    let line = y + plan.rows - 1;
-    let taken = take_line::<H, S>(h, plan, line, w, pad, table, slot * plan.sizes * (w + 30));
-    let picked = gather::<H::Cell, S>(plan, w, table, next(slot, plan.rows));
-    taken + picked
+impl<K: Kind> Ring<K> {
+    // A ring without lines, for sheets of the width.
+    pub(crate) fn new(plan: Plan, width: usize, pad: K) -> Ring<K>
+        requires { width ≤ 2048 }
+        ensures plan { result.course.plan ≡ plan }
+        ensures width { result.course.width ≡ width }
+        ensures pad { result.course.pad ≡ pad }
+        ensures slot { result.slot ≡ 0 }
+    {
+        let course = Course { plan, width, pad };
+        Ring { course, slot: 0 }
+    }
+
+    // Takes the lines before those that complete a row, V - 1 of them, each into the slot of its number, and answers the picks
+    // made. A place without a cell stands as the padding. Lines are no list: some of them lie above the sheet.
+    pub(crate) fn first_lines<H: Holder<Cell = K>, S: Side>(
+        &mut self,
+        h: &H,
+        table: &mut [K],
+    ) -> u64
+        requires start { self.old.slot ≡ 0 }
+        requires room { self.old.course.plan.rows * length self.old.course.plan.lengths * (self.old.course.width + 30) ≤ length table.old }
+        ensures few { result ≤ 30 * 64418 }
+        ensures picks { result ≡ (self.old.course.plan.rows - 1) * line_picks self.old.course.width self.old.course.plan.lengths }
+        ensures course { self.new.course ≡ self.old.course }
+        ensures slot { self.new.slot ≡ self.old.course.plan.rows - 1 }
+        ensures ring { Stands (side S.Side.lower K.Kind.lattice) K.Kind.means self.old.course (H.Holder.sheet h.now) table.new (self.old.course.plan.rows - 1) (self.old.course.plan.rows - 1) (self.old.course.plan.rows - 1) }
+    {
+        let mut picks = 0;
+        for line in 0..self.course.plan.rows - 1 {
+            picks += self.take::<H, S>(h, line, table);
+        }
+        picks
+    }
+
+    // Takes the line that completes row `y`, gathers the row in the slot after it, and answers the picks made. Rows of the
+    // sheet before row `y` are not read.
+    pub(crate) fn next_row<H: Holder<Cell = K>, S: Side>(
+        &mut self,
+        h: &H,
+        y: usize,
+        table: &mut [K],
+    ) -> u64
+        requires row { y ≤ 2048 }
+        requires room { self.old.course.plan.rows * length self.old.course.plan.lengths * (self.old.course.width + 30) ≤ length table.old }
+        ensures few { result ≤ 64418 + 2048 * 495 }
+        ensures picks { result ≡ line_picks self.old.course.width self.old.course.plan.lengths + self.old.course.width * (length self.old.course.plan.chords.items - 1) }
+        ensures course { self.new.course ≡ self.old.course }
+        ensures slot { self.new.slot ≡ next_slot self.old.course.plan.rows self.old.slot }
+        ensures row { (s : Sheet K) → SameFrom y s (H.Holder.sheet h.now) → Stands (side S.Side.lower K.Kind.lattice) K.Kind.means self.old.course s table.old self.old.slot (y + self.old.course.plan.rows - 1) (self.old.course.plan.rows - 1) → Laid (side S.Side.lower K.Kind.lattice) K.Kind.means self.old.course s table.new (self.new.slot * length self.old.course.plan.lengths * (self.old.course.width + 30)) y × Stands (side S.Side.lower K.Kind.lattice) K.Kind.means self.old.course s table.new self.new.slot (y + self.old.course.plan.rows) (self.old.course.plan.rows - 1) }
+    {
+        let line = y + self.course.plan.rows - 1;
+        let taken = self.take::<H, S>(h, line, table);
+        let picked = gather::<K, S>(&self.course, table, self.slot);
+        taken + picked
+    }
+
+    // Takes a line into the slot in which it is due, and answers the picks made. It is inlined for the same reason as what it
+    // calls.
+    #[inline(always)]
+    fn take<H: Holder<Cell = K>, S: Side>(&mut self, h: &H, line: usize, table: &mut [K]) -> u64
+        requires { self.old.course.plan.rows * length self.old.course.plan.lengths * (self.old.course.width + 30) ≤ length table.old }
+        ensures few { result ≤ 31 * 2078 }
+        ensures picks { result ≡ line_picks self.old.course.width self.old.course.plan.lengths }
+        ensures course { self.new.course ≡ self.old.course }
+        ensures slot { self.new.slot ≡ next_slot self.old.course.plan.rows self.old.slot }
+        ensures holds { Holds (side S.Side.lower K.Kind.lattice) K.Kind.means (K.Kind.means self.old.course.pad) (H.Holder.sheet h.now) self.old.course.plan self.old.course.width table.new (self.old.slot * length self.old.course.plan.lengths * (self.old.course.width + 30)) line }
+        ensures before { (x : ℕ) → x < self.old.slot * length self.old.course.plan.lengths * (self.old.course.width + 30) → held (side S.Side.lower K.Kind.lattice) K.Kind.means table.new x ≡ held (side S.Side.lower K.Kind.lattice) K.Kind.means table.old x }
+        ensures after { (x : ℕ) → self.old.slot * length self.old.course.plan.lengths * (self.old.course.width + 30) + length self.old.course.plan.lengths * (self.old.course.width + 30) ≤ x → held (side S.Side.lower K.Kind.lattice) K.Kind.means table.new x ≡ held (side S.Side.lower K.Kind.lattice) K.Kind.means table.old x }
+    {
+        let start = self.course.start(self.slot);
+        let picks = take_line::<H, S>(h, &self.course, line, table, start);
+        self.slot = next(self.slot, self.course.plan.rows);
+        picks
+    }
+
+    // The row that was gathered last.
+    pub(crate) fn row<'a>(&self, table: &'a [K]) -> &'a [K]
+        requires { self.now.course.plan.rows * length self.now.course.plan.lengths * (self.now.course.width + 30) ≤ length table.now }
+        ensures { result.now ≡ slice_range table.now (self.now.slot * length self.now.course.plan.lengths * (self.now.course.width + 30)) (self.now.slot * length self.now.course.plan.lengths * (self.now.course.width + 30) + self.now.course.width) }
+    {
+        let start = self.course.start(self.slot);
+        &table[start..start + self.course.width]
+    }
 }
 
 // The slot after a slot of the ring.
-pub(crate) fn next(slot: usize, rows: usize) -> usize
+fn next(slot: usize, rows: usize) -> usize
     requires { slot < rows }
     ensures { result ≡ next_slot rows slot }
 {

@@ -46,7 +46,7 @@ fn letter() -> Result<Mask, MaskFault> {
     ])
 }
 
-// Holds a row of three cells to what is wanted.
+// Holds a row of three cells to what is wanted. It goes by number, since the places of a holder are no list.
 fn shows<H: Holder>(rt: &impl Abort, holder: &H, wanted: [H::Cell; 3])
 where
     H::Cell: Kind + PartialEq + Debug,
@@ -56,32 +56,19 @@ where
     }
 }
 
-// Erodes a row of three cells under the pair.
-fn erodes<H: Holder>(
+// Filters a row of three cells under the pair.
+fn filters<H: Holder, F: Fn(&mut H, &Mask, &mut [H::Cell]) -> Result<u64, Refusal>>(
     rt: &impl Abort,
+    filter: F,
     holder: &mut H,
     table: &mut [H::Cell],
     wanted: [H::Cell; 3],
 ) -> Result<(), Fail>
 where
     H::Cell: Kind + PartialEq + Debug,
+    requires { F.IsAlwaysCallable filter }
 {
-    assert_eq!(rt; erode(holder, &pair()?, table), Ok(32));
-    shows(rt, holder, wanted);
-    Ok(())
-}
-
-// Dilates a row of three cells under the pair.
-fn dilates<H: Holder>(
-    rt: &impl Abort,
-    holder: &mut H,
-    table: &mut [H::Cell],
-    wanted: [H::Cell; 3],
-) -> Result<(), Fail>
-where
-    H::Cell: Kind + PartialEq + Debug,
-{
-    assert_eq!(rt; dilate(holder, &pair()?, table), Ok(32));
+    assert_eq!(rt; filter(holder, &pair()?, table), Ok(32));
     shows(rt, holder, wanted);
     Ok(())
 }
@@ -89,11 +76,11 @@ where
 // Lays the row into the cells from place `at` on; all the others are `rest`.
 fn lay<K: Kind>(rt: &impl Abort, cells: &mut [K], at: usize, row: [K; 3], rest: K) {
     assert!(rt; cells.len() == 64 && at <= 61);
-    for i in 0..64 {
-        cells[i] = rest;
+    for cell in cells.iter_mut() {
+        *cell = rest;
     }
-    for x in 0..3 {
-        cells[at + x] = row[x];
+    for (x, cell) in row.iter().enumerate() {
+        cells[at + x] = *cell;
     }
 }
 
@@ -112,18 +99,54 @@ fn in_each_holder<K: Kind + PartialEq + Debug>(
     let second = example.row[1];
     assert!(rt; cells.len() == 64);
     lay(rt, cells, 0, row, first);
-    erodes(rt, &mut Rows::new(3, &mut cells[0..3]), table, eroded)?;
+    filters(
+        rt,
+        |h, m, t| erode(h, m, t),
+        &mut Rows::new(3, &mut cells[0..3]),
+        table,
+        eroded,
+    )?;
     lay(rt, cells, 0, row, first);
-    dilates(rt, &mut Rows::new(3, &mut cells[0..3]), table, dilated)?;
+    filters(
+        rt,
+        |h, m, t| dilate(h, m, t),
+        &mut Rows::new(3, &mut cells[0..3]),
+        table,
+        dilated,
+    )?;
     lay(rt, cells, 0, row, first);
-    erodes(rt, &mut Tiles::new(3, 1, &mut cells[0..64]), table, eroded)?;
+    filters(
+        rt,
+        |h, m, t| erode(h, m, t),
+        &mut Tiles::new(3, 1, &mut cells[0..64]),
+        table,
+        eroded,
+    )?;
     lay(rt, cells, 0, row, first);
-    dilates(rt, &mut Tiles::new(3, 1, &mut cells[0..64]), table, dilated)?;
+    filters(
+        rt,
+        |h, m, t| dilate(h, m, t),
+        &mut Tiles::new(3, 1, &mut cells[0..64]),
+        table,
+        dilated,
+    )?;
     lay(rt, cells, 5, row, second);
-    erodes(rt, &mut in_the_south(&mut cells[0..8]), table, eroded)?;
+    filters(
+        rt,
+        |h, m, t| erode(h, m, t),
+        &mut in_the_south(&mut cells[0..8]),
+        table,
+        eroded,
+    )?;
     assert_eq!(rt; cells[4], second);
     lay(rt, cells, 5, row, second);
-    dilates(rt, &mut in_the_south(&mut cells[0..8]), table, dilated)?;
+    filters(
+        rt,
+        |h, m, t| dilate(h, m, t),
+        &mut in_the_south(&mut cells[0..8]),
+        table,
+        dilated,
+    )?;
     assert_eq!(rt; cells[4], second);
     Ok(())
 }

@@ -8,8 +8,8 @@ use Rattle.std.proofs.lemmas.List.{length-append, length-drop, length-map}
 use Rattle.std.proofs.lemmas.Int.{ints, clamps}
 use Rattle.std.proofs.lemmas.List.Sums.{length-filter, count_by-le-length}
 use Rattle.std.proofs.ByRecursion.{sum_by_le}
-use Rattle.masks.specs.Chords.{chords, starts, chord_at}
-use Rattle.masks.specs.Cost.{spanned, line_picks, filter_picks}
+use Rattle.masks.specs.Chords.{chords, starts, chord_at, Near}
+use Rattle.masks.specs.Cost.{farthest, spanned, line_picks, filter_picks}
 use Rattle.masks.specs.Lengths.{listed, rising, lengths, halved, ticked}
 use Rattle.masks.specs.Points.{Among}
 use Rattle.masks.specs.Rows.{points}
@@ -20,7 +20,7 @@ use Rattle.masks.proofs.Lists.{all_among}
 use Rattle.masks.proofs.Runs.{chords_none, chords_more, starts_few}
 
 -- at most 16 chords in a row
-chords_few : (rows : List ℕ) (n : ℕ) → length (chords rows n) ≤ 16 * n
+pub chords_few : (rows : List ℕ) (n : ℕ) → length (chords rows n) ≤ 16 * n
 chords_few rows zero = let e = ap length (chords_none rows) in omega arith
 chords_few rows (suc n) =
     let more : chords rows (suc n) ≡ _ = ap (chords rows) (sym_one n) ∙ chords_more rows n in
@@ -40,28 +40,25 @@ rising_few s n =
     let c = count_by-le-length (listed s) (range_with_len 1 n) in
     omega (arith, length-range_with_len 1 n)
 
-lengths_few : (cs : List Chord) → length (lengths cs) ≤ 31
+pub lengths_few : (cs : List Chord) → length (lengths cs) ≤ 31
 unfolding lengths
 lengths_few cs = rising_few (halved (ticked cs)) 31
 
--- a mask's points lie in 31 rows
-min_low : (ps : List Point) (z : ℤ) → neg_ℤ (pos 15) ≤ℤ z → AllByRecursion (λ p. neg_ℤ (pos 15) ≤ℤ p.v) ps → neg_ℤ (pos 15) ≤ℤ fold (λ y p. int_min y p.v) z ps
-min_low [] z h a = h
-min_low (p ∷ ps) z h a = let l = a.0 in min_low ps (int_min z p.v) (omega (arith, ints, clamps)) a.1
+-- the farthest of offsets from -15 to 15 lie from -15 to 15, on either side of the origin
+module _ {X : Type 0} (v : X → ℤ) where
+  least_near : (xs : List X) (z : ℤ) → neg_ℤ (pos 15) ≤ℤ z → z ≤ℤ pos 0 → AllByRecursion (λ x. Near (v x)) xs → (neg_ℤ (pos 15) ≤ℤ fold (λ y x. int_min y (v x)) z xs) × (fold (λ y x. int_min y (v x)) z xs ≤ℤ pos 0)
+  least_near [] z l h a = (l, h)
+  least_near (x ∷ xs) z l h a = let n = a.0.0 in least_near xs (int_min z (v x)) (omega (arith, ints, clamps)) (omega (arith, ints, clamps)) a.1
 
-max_high : (ps : List Point) (z : ℤ) → z ≤ℤ pos 15 → AllByRecursion (λ p. p.v ≤ℤ pos 15) ps → fold (λ y p. int_max y p.v) z ps ≤ℤ pos 15
-max_high [] z h a = h
-max_high (p ∷ ps) z h a = let l = a.0 in max_high ps (int_max z p.v) (omega (arith, ints, clamps)) a.1
+  greatest_near : (xs : List X) (z : ℤ) → pos 0 ≤ℤ z → z ≤ℤ pos 15 → AllByRecursion (λ x. Near (v x)) xs → (pos 0 ≤ℤ fold (λ y x. int_max y (v x)) z xs) × (fold (λ y x. int_max y (v x)) z xs ≤ℤ pos 15)
+  greatest_near [] z l h a = (l, h)
+  greatest_near (x ∷ xs) z l h a = let n = a.0.1 in greatest_near xs (int_max z (v x)) (omega (arith, ints, clamps)) (omega (arith, ints, clamps)) a.1
 
-min_high : (ps : List Point) (z : ℤ) → z ≤ℤ pos 0 → fold (λ y p. int_min y p.v) z ps ≤ℤ pos 0
-min_high [] z h = h
-min_high (p ∷ ps) z h = min_high ps (int_min z p.v) (omega (arith, ints, clamps))
+  pub farthest_near : (xs : List X) → AllByRecursion (λ x. Near (v x)) xs →
+      ((neg_ℤ (pos 15) ≤ℤ farthest int_min v xs) × (farthest int_min v xs ≤ℤ pos 0)) × ((pos 0 ≤ℤ farthest int_max v xs) × (farthest int_max v xs ≤ℤ pos 15))
+  farthest_near xs a = let z : pos 0 ≤ℤ pos 0 = omega (arith, ints) in (least_near xs (pos 0) (omega (arith, ints)) z a, greatest_near xs (pos 0) z (omega (arith, ints)) a)
 
-max_low : (ps : List Point) (z : ℤ) → pos 0 ≤ℤ z → pos 0 ≤ℤ fold (λ y p. int_max y p.v) z ps
-max_low [] z h = h
-max_low (p ∷ ps) z h = max_low ps (int_max z p.v) (omega (arith, ints, clamps))
-
-point_rows : (rows : List ℕ) (p : Point) → Among (points rows 31) p → (neg_ℤ (pos 15) ≤ℤ p.v) × (p.v ≤ℤ pos 15)
+point_rows : (rows : List ℕ) (p : Point) → Among (points rows 31) p → Near p.v
 point_rows rows p i =
     let q = held_at rows (p.u +ℤ pos 15) (p.v +ℤ pos 15) (among_held rows p i) in
     let l = marked_row rows q.0 q.1 q.4 in
@@ -71,11 +68,8 @@ pub spanned_few : (rows : List ℕ) → spanned rows ≤ 31
 unfolding spanned
 spanned_few rows =
     let ps = points rows 31 in
-    let a = min_low ps (pos 0) (omega (arith, ints)) (all_among (λ p. neg_ℤ (pos 15) ≤ℤ p.v) ps (λ p i. (point_rows rows p i).0)) in
-    let b = max_high ps (pos 0) (omega (arith, ints)) (all_among (λ p. p.v ≤ℤ pos 15) ps (λ p i. (point_rows rows p i).1)) in
-    let c = min_high ps (pos 0) (omega (arith, ints)) in
-    let d = max_low ps (pos 0) (omega (arith, ints)) in
-    omega (arith, ints)
+    let near = farthest_near (λ p. p.v) ps (all_among (λ p. Near p.v) ps (point_rows rows)) in
+    omega (arith, ints, near)
 
 line_few : (w : ℕ) (ns : List ℕ) → length ns ≤ 31 → w ≤ 2048 → line_picks w ns ≤ 31 * 2079
 line_few w ns h l =

@@ -1,5 +1,5 @@
 -- The runs of a row, and that the list of chords has just them.
-use Rattle.std.proofs.Common.{◌≡◌, ℕ, zero, suc, ◌+◌, ◌-◌, ◌*◌, ◌<◌, ◌≤◌, Bool, true, false, cond, not, List, [], ◌∷◌, ◌++◌, map, length, pos, ◌+ℤ◌, ◌-ℤ◌, neg_ℤ, ◌≤ℤ◌, filter, sym, refl, ap, ◌∙◌, subst, inl, inr, add-one, arith}
+use Rattle.std.proofs.Common.{◌≡◌, ℕ, zero, suc, ◌+◌, ◌-◌, ◌*◌, ◌<◌, ◌≤◌, Bool, true, false, cond, not, List, [], ◌∷◌, ◌++◌, map, length, pos, ◌+ℤ◌, ◌-ℤ◌, filter, sym, refl, ap, ◌∙◌, subst, inl, inr, add-one, arith}
 use Rattle.std.specs.List.{range_with_len, flat_map, prefix_len, AllByRecursion}
 use Rattle.std.proofs.lemmas.List.FromFn.{length-range_with_len}
 use Rattle.std.proofs.lemmas.List.Sums.{prefix_len-le-length}
@@ -8,7 +8,7 @@ use Rattle.std.proofs.lemmas.Int.{ints}
 use Rattle.std.proofs.lemmas.Bool.{cases_Bool, cases_eq, cases_lt, and_parts, and_from, both_ways, not-true, not_from_false}
 use Rattle.masks.specs.Points.{Among, Earlier, InOrder}
 use Rattle.masks.specs.Rows.{marked, holds, points}
-use Rattle.masks.specs.Chords.{run, starts_at, starts, chord_at, chords, Run, first, Chords}
+use Rattle.masks.specs.Chords.{run, starts_at, starts, chord_at, chords, OnGrid, Run, first, Chords}
 use Rattle.masks.specs.declared.point.Point.{Point}
 use Rattle.masks.specs.declared.chord.Chord.{Chord}
 use Rattle.masks.specs.Cost.{farthest, northmost, southmost, spanned}
@@ -226,14 +226,18 @@ module _ (rows : List ℕ) where
   unfolding run
   run_few c r = let l = prefix_len-le-length (λ k. marked rows k r) (range_with_len c 31) in omega (arith, length-range_with_len c 31)
 
-  -- a chord has from 1 to 31 points
-  pub chord_sizes : AllByRecursion (λ ch. (1 ≤ ch.length) × (ch.length < 32)) (chords rows 31)
-  chord_sizes = all_among (λ ch. (1 ≤ ch.length) × (ch.length < 32)) (chords rows 31) (λ ch i.
+  -- a chord lies on the grid
+  pub chords_on_grid : AllByRecursion OnGrid (chords rows 31)
+  chords_on_grid = all_among OnGrid (chords rows 31) (λ ch i.
       let R = among_chord ch i in
       let q = run_chord ch R in
+      let s = ap (λ (d : Chord). d.start) q.5 in
+      let v = ap (λ (d : Chord). d.v) q.5 in
       let e = ap (λ (d : Chord). d.length) q.5 in
       let few = run_few q.1 q.0 in
-      (R.some, omega arith))
+      let r = q.2 in
+      let c = q.3 in
+      ((omega (arith, ints), omega (arith, ints)), (omega (arith, ints), omega (arith, ints)), R.some, omega arith))
 
   -- the points from column k to column c stand without a gap, and a chord starts in column k
   stretch : (c r : ℕ) → marked rows c r ≡ true → (k : ℕ) × (k ≤ c) × (starts_at rows r k ≡ true) × ((j : ℕ) → k ≤ j → j ≤ c → marked rows j r ≡ true)
@@ -277,20 +281,6 @@ module _ (rows : List ℕ) where
       let q = held_at rows (p.u +ℤ pos 15) (p.v +ℤ pos 15) (among_held rows p s.1) in
       let k = covering q.0 q.1 q.4 in
       (chord_at rows q.1 k.0, k.3)
-
-  -- a chord lies in the grid
-  chord_row : (ch : Chord) → Among (chords rows 31) ch → (neg_ℤ (pos 15) ≤ℤ ch.v) × (ch.v ≤ℤ pos 15)
-  chord_row ch i =
-      let q = run_chord ch (among_chord ch i) in
-      let e = ap (λ (d : Chord). d.v) q.5 in
-      let h = q.2 in
-      (omega (arith, ints), omega (arith, ints))
-
-  pub chords_north : AllByRecursion (λ ch. neg_ℤ (pos 15) ≤ℤ ch.v) (chords rows 31)
-  chords_north = all_among (λ ch. neg_ℤ (pos 15) ≤ℤ ch.v) (chords rows 31) (λ ch i. (chord_row ch i).0)
-
-  pub chords_south : AllByRecursion (λ ch. ch.v ≤ℤ pos 15) (chords rows 31)
-  chords_south = all_among (λ ch. ch.v ≤ℤ pos 15) (chords rows 31) (λ ch i. (chord_row ch i).1)
 
   -- the rows that have points are those that have chords
   point_chord : (p : Point) → Among (points rows 31) p → (ch : Chord) × Among (chords rows 31) ch × (p.v ≡ ch.v)

@@ -2,9 +2,10 @@
 --     run rows c r           how many points follow each other in row r from column c on
 --     starts rows r n        the columns below n in which a chord starts
 --     chords rows n          the chords in the rows below n, row by row and each row from the left
+--     OnGrid ch              ch starts on the grid, and is no longer than a row of it
 --     Run rows ch            ch is such a run, in the subject's own words
 --     Chords rows cs         cs has just the runs, by row and then by start
-use Rattle.std.specs.Prelude.{◌≡◌, ℕ, zero, suc, ◌<◌, ◌≤◌, Bool, true, false, not, ◌&&◌, ◌↔◌, List, map, pos, ◌+ℤ◌, ◌-ℤ◌, filter}
+use Rattle.std.specs.Prelude.{◌≡◌, ℕ, zero, suc, ◌<◌, ◌≤◌, Bool, true, false, not, ◌&&◌, ◌↔◌, List, map, ℤ, pos, ◌+ℤ◌, ◌-ℤ◌, neg_ℤ, ◌≤ℤ◌, filter}
 use Rattle.std.specs.List.{range_with_len, flat_map, prefix_len}
 use Rattle.masks.specs.Points.{Among, Earlier, InOrder}
 use Rattle.masks.specs.Rows.{marked, holds}
@@ -30,6 +31,14 @@ chord_at rows r c = record { v = pos r -ℤ pos 15; start = pos c -ℤ pos 15; l
 -- the chords in the rows below n; with n = 31 all chords
 unfoldable pub chords : List ℕ → ℕ → List Chord
 chords rows n = flat_map (λ r. map (chord_at rows r) (starts rows r 31)) (range_with_len 0 n)
+
+-- from -15 to 15
+abbrev pub Near : ℤ → Type 0
+Near z = (neg_ℤ (pos 15) ≤ℤ z) × (z ≤ℤ pos 15)
+
+-- a chord starts in one of the 31 columns and rows from -15 on, and has from 1 to 31 points
+abbrev pub OnGrid : Chord → Type 0
+OnGrid ch = Near ch.start × Near ch.v × (1 ≤ ch.length) × (ch.length < 32)
 
 -- a run of points in one row that cannot be lengthened at either end
 pub record Run (rows : List ℕ) (ch : Chord) : Type 0 where

@@ -1,6 +1,9 @@
 // Chords: runs of points in one row.
-ghost use Rattle.std.specs.Prelude.{◌≡◌, ◌+◌, ◌<◌, ◌≤◌, ◌++◌, map, length};
-ghost use Rattle.masks.specs.Chords.{run, starts_at, starts, chord_at, chords, Chords};
+ghost use Rattle.std.specs.Prelude.{◌≡◌, ◌+◌, ◌<◌, ◌≤◌, ◌++◌, map, length, pos, neg_ℤ, ◌≤ℤ◌};
+ghost use Rattle.std.specs.Int.{int_min, int_max};
+ghost use Rattle.std.specs.List.{AllByRecursion};
+ghost use Rattle.masks.specs.Chords.{run, starts_at, starts, chord_at, chords, Chords, OnGrid};
+ghost use Rattle.masks.specs.Cost.{farthest};
 
 use crate::mask::{Mask, marked};
 use arrayvec::ArrayVec;
@@ -15,18 +18,23 @@ pub struct Chord {
 }
 
 // The chords of a mask, in the value itself: 31 rows have room for 16 each.
-#[derive(Drop)]
+#[derive(Clone, Drop)]
 pub struct ChordList {
     list: ArrayVec<Chord, 496>,
 }
 
 impl Model for ChordList {
     ghost use Rattle.std.specs.Prelude.{List};
+    ghost use Rattle.std.specs.List.{AllByRecursion};
     ghost use Rattle.masks.specs.declared.chord.Chord.{Chord};
 
     ghost Value = { List Chord };
 
+    ghost use Rattle.masks.specs.Chords.{OnGrid};
+
     ghost view = { λ l. l.list.items };
+
+    ghost invariant = { λ l. AllByRecursion OnGrid l.list.items };
 }
 
 impl ChordList {
@@ -46,8 +54,24 @@ impl ChordList {
     pub fn as_slice(&self) -> &[Chord]
         ensures items { result.now ≡ self.now }
         ensures few { length result.now ≤ 496 }
+        ensures on_grid { AllByRecursion OnGrid result.now }
     {
         self.list.as_slice()
+    }
+
+    // The northmost and the southmost row of the chords and the origin.
+    pub fn extent(&self) -> (i32, i32)
+        ensures around { ((neg_ℤ (pos 15) ≤ℤ result.0) × (result.0 ≤ℤ pos 0)) × ((pos 0 ≤ℤ result.1) × (result.1 ≤ℤ pos 15)) }
+        ensures north { result.0 ≡ farthest int_min (λ c. c.v) self.now }
+        ensures south { result.1 ≡ farthest int_max (λ c. c.v) self.now }
+    {
+        let mut north: i32 = 0;
+        let mut south: i32 = 0;
+        for c in self.as_slice() {
+            north = north.min(c.v);
+            south = south.max(c.v);
+        }
+        (north, south)
     }
 }
 

@@ -4,7 +4,7 @@ ghost use Rattle.std.specs.Int.{int_min, int_max};
 ghost use Rattle.std.specs.List.{AllByRecursion};
 ghost use Rattle.masks.specs.Cost.{farthest, spanned, table_cells, line_picks, filter_picks, capped};
 
-use crate::chord::{Chord, ChordList};
+use crate::chord::ChordList;
 use crate::lengths::LengthList;
 use crate::mask::Mask;
 
@@ -13,8 +13,8 @@ pub fn rows(mask: &Mask) -> usize
     ensures few { result ≤ 31 }
     ensures answer { result ≡ spanned mask.now.rows }
 {
-    let chords = ChordList::of(mask);
-    span(northmost(chords.as_slice()), southmost(chords.as_slice()))
+    let (north, south) = ChordList::of(mask).extent();
+    span(north, south)
 }
 
 // How many cells a table needs for sheets of the width. The answer is exact where it is below 2^64 - 1.
@@ -29,7 +29,7 @@ pub fn table_cells(mask: &Mask, width: u64) -> u64
 pub fn filter_picks(mask: &Mask, width: u64, height: u64) -> u64
     ensures { result ≡ capped (filter_picks mask.now.rows width height) }
 {
-    let line = line_picks(LengthList::of(mask).as_slice(), width);
+    let line = line_picks(&LengthList::of(mask), width);
     picks(
         rows(mask),
         line,
@@ -68,42 +68,14 @@ fn picks(rows: usize, line: u64, chords: usize, width: u64, height: u64) -> u64
     built.saturating_add(others)
 }
 
-// The least row of the chords and the origin.
-fn northmost(chords: &[Chord]) -> i32
-    requires { AllByRecursion (λ c. neg_ℤ (pos 15) ≤ℤ c.v) chords.now }
-    ensures within { (neg_ℤ (pos 15) ≤ℤ result) × (result ≤ℤ pos 0) }
-    ensures answer { result ≡ farthest int_min (λ c. c.v) chords.now }
-{
-    let mut north = 0;
-    for c in chords {
-        north = north.min(c.v);
-    }
-    north
-}
-
-// The greatest row of the chords and the origin.
-fn southmost(chords: &[Chord]) -> i32
-    requires { AllByRecursion (λ c. c.v ≤ℤ pos 15) chords.now }
-    ensures within { (pos 0 ≤ℤ result) × (result ≤ℤ pos 15) }
-    ensures answer { result ≡ farthest int_max (λ c. c.v) chords.now }
-{
-    let mut south = 0;
-    for c in chords {
-        south = south.max(c.v);
-    }
-    south
-}
-
 // The picks of one table line: those of each length after the first.
-fn line_picks(lengths: &[usize], width: u64) -> u64
-    requires { AllByRecursion (λ a. a < 32) lengths.now }
+fn line_picks(lengths: &LengthList, width: u64) -> u64
     ensures { result ≡ capped (line_picks width lengths.now) }
 {
-    if lengths.is_empty() {
-        0
-    } else {
-        starts(&lengths[1..lengths.len()], width)
-    }
+    lengths
+        .as_slice()
+        .split_first()
+        .map_or(0, |(_, longer)| starts(longer, width))
 }
 
 // The starts of the lengths, added up.

@@ -4,23 +4,26 @@ ghost use Rattle.std.specs.List.{AllByRecursion};
 ghost use Rattle.masks.specs.Chords.{chords};
 ghost use Rattle.masks.specs.Lengths.{listed, ticked, reached, halved, rising, lengths, Serves};
 
-use crate::chord::{Chord, ChordList};
+use crate::chord::ChordList;
 use crate::mask::Mask;
 use arrayvec::ArrayVec;
 use std::marker::Model;
 
 // The lengths in rising order, from 1 on, in the value itself.
-#[derive(Drop)]
+#[derive(Clone, Drop)]
 pub struct LengthList {
     list: ArrayVec<usize, 31>,
 }
 
 impl Model for LengthList {
-    ghost use Rattle.std.specs.Prelude.{ℕ, List};
+    ghost use Rattle.std.specs.Prelude.{ℕ, ◌<◌, List};
+    ghost use Rattle.std.specs.List.{AllByRecursion};
 
     ghost Value = { List ℕ };
 
     ghost view = { λ l. l.list.items };
+
+    ghost invariant = { λ l. AllByRecursion (λ a. a < 32) l.list.items };
 }
 
 impl LengthList {
@@ -30,12 +33,11 @@ impl LengthList {
         ensures list { result ≡ lengths (chords mask.now.rows 31) }
         ensures serves { Serves (chords mask.now.rows 31) (lengths (chords mask.now.rows 31)) }
     {
-        LengthList::of_chords(ChordList::of(mask).as_slice())
+        LengthList::of_chords(&ChordList::of(mask))
     }
 
     // The length list of the chords.
-    pub(crate) fn of_chords(chords: &[Chord]) -> LengthList
-        requires { AllByRecursion (λ c. c.length < 32) chords.now }
+    pub(crate) fn of_chords(chords: &ChordList) -> LengthList
         ensures { result ≡ lengths chords.now }
     {
         LengthList {
@@ -47,18 +49,18 @@ impl LengthList {
     pub fn as_slice(&self) -> &[usize]
         ensures items { result.now ≡ self.now }
         ensures few { length result.now ≤ 31 }
+        ensures short { AllByRecursion (λ a. a < 32) result.now }
     {
         self.list.as_slice()
     }
 }
 
 // The lengths of the chords, ticked.
-fn ticked(chords: &[Chord]) -> [bool; 32]
-    requires { AllByRecursion (λ c. c.length < 32) chords.now }
+fn ticked(chords: &ChordList) -> [bool; 32]
     ensures { result ≡ ticked chords.now }
 {
     let mut ticks = [false; 32];
-    for c in chords {
+    for c in chords.as_slice() {
         ticks[c.length] = true;
     }
     ticks

@@ -1,5 +1,5 @@
-mod Finds
-mod Extents
-mod MaskChords
-mod MaskPlans
-mod TurnedPlans
+pub mod Finds
+pub mod Extents
+pub mod MaskChords
+pub mod MaskPlans
+pub mod TurnedPlans

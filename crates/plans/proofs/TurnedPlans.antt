@@ -1,75 +1,93 @@
 -- A plan turned about the origin: as many rows and chords, the same lengths, the turned points.
-use Rattle.std.proofs.Common.{◌≡◌, ℕ, ◌+◌, ◌-◌, ◌<◌, List, map, get_or, sym, ap, ◌∙◌, subst, arith}
+use Rattle.std.proofs.Common.{◌≡◌, ℕ, ◌+◌, ◌-◌, ◌<◌, List, map, length, get_or, sym, ap, ◌∙◌, subst, ap₂, arith}
+use Rattle.std.proofs.lemmas.List.{get_or-map, length-map}
 use Rattle.std.proofs.lemmas.Int.{ints}
 use Rattle.masks.specs.Points.{Among, turned}
 use Rattle.masks.specs.declared.point.Point.{Point}
 use Rattle.masks.proofs.Grids.{same_point}
 use Rattle.masks.proofs.Lists.{among_map, map_among}
 use Rattle.plans.specs.declared.plan.Plan.{Plan}
-use Rattle.plans.specs.declared.plan.PlannedChord.{PlannedChord}
-use Rattle.plans.specs.Plan.{chord_of, length_of, long, point_of, Within, Sound, Spells, PlanOf}
+use Rattle.plans.specs.declared.placed.PlannedChord.{PlannedChord}
+use Rattle.plans.specs.Sound.{chord_at, Within, Sound}
 use Rattle.plans.specs.Placed.{turned_chord}
+use Rattle.plans.specs.Plan.{chord_of, long, point_of, Spells, PlanOf}
 
-module _ (p : Plan) (out : List PlannedChord) (S : Sound p)
-    (E : (q : ℕ) → q < p.count → get_or out q (record { row = 0; column = 0; index = 0 }) ≡ turned_chord p (chord_of p q)) where
-  abbrev the_turned : Plan
-  the_turned = record { above = p.rows - 1 - p.above; rows = p.rows; lengths = p.lengths; sizes = p.sizes; chords = out; count = p.count }
+module _ (p : Plan) where
+  abbrev out : List PlannedChord
+  out = map (turned_chord p.rows p.lengths) p.chords.items
 
-  same_long : (q : ℕ) → q < p.count → long the_turned q ≡ long p q
-  same_long q h = ap (λ (c : PlannedChord). length_of p c.index) (E q h)
+  as_many : length out ≡ length p.chords.items
+  as_many = length-map p.chords.items (turned_chord p.rows p.lengths)
 
-  turned_sound : Sound the_turned
+  at_chord : (q : ℕ) → q < length p.chords.items → chord_at out q ≡ turned_chord p.rows p.lengths (chord_of p q)
+  at_chord q h = get_or-map (turned_chord p.rows p.lengths) p.chords.items q (record { row = 0; column = 0; index = 0 }) (record { row = 0; column = 0; index = 0 }) h
+
+  at_long : (q : ℕ) → q < length p.chords.items → get_or p.lengths (chord_at out q).index 0 ≡ long p q
+  at_long q h = ap (λ (c : PlannedChord). get_or p.lengths c.index 0) (at_chord q h)
+
+  pub turned_sound : Sound (p.rows - 1 - p.above) p.rows p.lengths out
   turned_sound = record {
-    some_chord = S.some_chord;
-    few_chords = S.few_chords;
-    origin = let o = S.origin in omega (arith, o);
-    few_rows = S.few_rows;
-    some_length = S.some_length;
-    few_lengths = S.few_lengths;
-    first = S.first;
-    climbs = S.climbs;
-    doubles = S.doubles;
-    low = S.low;
-    top = S.top;
-    chords = λ q h.
-        let w = S.chords q h in
-        let l = S.low (chord_of p q).index w.index in
-        subst (Within p.rows p.sizes) (sym (E q h)) (record { row = omega (arith, w.row); index = w.index; column = omega (arith, l) });
-    ends = λ q h. let e = S.ends q h in omega (arith, e, same_long q h, ap (λ (c : PlannedChord). c.column) (E q h));
+    some_chord = let s = p.sound.some_chord in omega (arith, s, as_many);
+    few_chords = let s = p.sound.few_chords in omega (arith, s, as_many);
+    origin = let o = p.sound.origin in omega (arith, o);
+    few_rows = p.sound.few_rows;
+    some_length = p.sound.some_length;
+    few_lengths = p.sound.few_lengths;
+    first = p.sound.first;
+    climbs = p.sound.climbs;
+    doubles = p.sound.doubles;
+    low = p.sound.low;
+    top = p.sound.top;
+    chords = λ q l.
+        let h : q < length p.chords.items = omega (arith, l, as_many) in
+        let w = p.sound.chords q h in
+        let n = p.sound.low (chord_of p q).index w.index in
+        subst (Within p.rows (length p.lengths)) (sym (at_chord q h)) (record { row = omega (arith, w.row); index = w.index; column = omega (arith, n) });
+    ends = λ q l.
+        let h : q < length p.chords.items = omega (arith, l, as_many) in
+        let e = p.sound.ends q h in omega (arith, e, at_long q h, ap (λ (c : PlannedChord). c.column) (at_chord q h));
   }
 
-  -- point j of a turned chord is point i of the chord, from its other end, turned
-  across : (q i j : ℕ) → q < p.count → i + j + 1 ≡ long p q → point_of the_turned q j ≡ turned (point_of p q i)
-  across q i j h e =
-      let w = (S.chords q h).row in
-      let o = S.origin in
-      let n = S.ends q h in
-      let c = ap (λ (k : PlannedChord). k.column) (E q h) in
-      let r = ap (λ (k : PlannedChord). k.row) (E q h) in
-      same_point (point_of the_turned q j) (turned (point_of p q i)) (omega (arith, ints, e, n, c)) (omega (arith, ints, w, o, r))
+  module _ (t : Plan) (above : t.above ≡ p.rows - 1 - p.above) (rows : t.rows ≡ p.rows) (ls : t.lengths ≡ p.lengths) (items : t.chords.items ≡ out) where
+    many : length t.chords.items ≡ length p.chords.items
+    many = ap length items ∙ as_many
 
-  turned_spells : (ps : List Point) → Spells p ps → Spells the_turned (map turned ps)
-  turned_spells ps P = record {
-    each = λ q j h l.
-        let n = long p q in
-        let s = same_long q h in
-        let lt : j < n = omega (arith, l, s) in
-        let i : ℕ = n - 1 - j in
-        let e : i + j + 1 ≡ n = omega arith in
-        subst (Among (map turned ps)) (sym (across q i j h e)) (among_map turned ps (point_of p q i) (P.each q i h (omega arith)));
-    only = λ pt m.
-        let t = map_among turned ps pt m in
-        let o = P.only t.0 t.1 in
-        let q = o.0 in
-        let i = o.1 in
-        let h = o.2 in
-        let l = o.3 in
-        let n = long p q in
-        let s = same_long q h in
-        let j : ℕ = n - 1 - i in
-        let e : i + j + 1 ≡ n = omega (arith, l) in
-        (q, j, h, omega (arith, s, e), t.2 ∙ ap turned o.4 ∙ sym (across q i j h e));
-  }
+    same_long : (q : ℕ) → q < length p.chords.items → long t q ≡ long p q
+    same_long q h = ap₂ (λ (l : List ℕ) (xs : List PlannedChord). get_or l (chord_at xs q).index 0) ls items ∙ at_long q h
 
-  pub turned_plan : (ws : List ℕ) (ps : List Point) → PlanOf ws ps p → PlanOf ws (map turned ps) the_turned
-  turned_plan ws ps P = record { sound = turned_sound; points = turned_spells ps P.points; rows = P.rows; sizes = P.sizes; list = P.list; count = P.count }
+    -- point j of a turned chord is point i of the chord, from its other end, turned
+    across : (q i j : ℕ) → q < length p.chords.items → i + j + 1 ≡ long p q → point_of t q j ≡ turned (point_of p q i)
+    across q i j h e =
+        let w = (p.sound.chords q h).row in
+        let o = p.sound.origin in
+        let n = p.sound.ends q h in
+        let c = ap (λ (xs : List PlannedChord). (chord_at xs q).column) items ∙ ap (λ (k : PlannedChord). k.column) (at_chord q h) in
+        let r = ap (λ (xs : List PlannedChord). (chord_at xs q).row) items ∙ ap (λ (k : PlannedChord). k.row) (at_chord q h) in
+        same_point (point_of t q j) (turned (point_of p q i)) (omega (arith, ints, e, n, c)) (omega (arith, ints, w, o, r, above))
+
+    turned_spells : (ps : List Point) → Spells p ps → Spells t (map turned ps)
+    turned_spells ps P = record {
+      each = λ q j k l.
+          let h : q < length p.chords.items = omega (arith, k, many) in
+          let n = long p q in
+          let s = same_long q h in
+          let lt : j < n = omega (arith, l, s) in
+          let i : ℕ = n - 1 - j in
+          let e : i + j + 1 ≡ n = omega arith in
+          subst (Among (map turned ps)) (sym (across q i j h e)) (among_map turned ps (point_of p q i) (P.each q i h (omega arith)));
+      only = λ pt m.
+          let u = map_among turned ps pt m in
+          let o = P.only u.0 u.1 in
+          let q = o.0 in
+          let i = o.1 in
+          let h = o.2 in
+          let l = o.3 in
+          let n = long p q in
+          let s = same_long q h in
+          let j : ℕ = n - 1 - i in
+          let e : i + j + 1 ≡ n = omega (arith, l) in
+          (q, j, omega (arith, h, many), omega (arith, s, e), u.2 ∙ ap turned o.4 ∙ sym (across q i j h e));
+    }
+
+    pub turned_plan : (ws : List ℕ) (ps : List Point) → PlanOf ws ps p → PlanOf ws (map turned ps) t
+    turned_plan ws ps P = record { points = turned_spells ps P.points; rows = rows ∙ P.rows; lengths = ls ∙ P.lengths; count = many ∙ P.count }

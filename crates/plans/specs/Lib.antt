@@ -1,3 +1,4 @@
 -- Read in this order.
-pub mod Plan
+pub mod Sound
 pub mod Placed
+pub mod Plan

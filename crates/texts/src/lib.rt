@@ -1,4 +1,4 @@
-// The parts of a job that is written as text.
+// Jobs that are written as text: how their lines are read, and how what became of them is told.
 #![tactic(auto)]
 
 // The lines of the input.

@@ -6,17 +6,8 @@ use Rattle.sheets.specs.Sheet.{shown}
 use Rattle.filters.proofs.Verdicts.{dilated_verdict}
 use Rattle.filters.proofs.filter.dilate.Goals as goal
 
-pub filter-requires : goal.filter-requires
-filter-requires g c = c.of_turned.ensures.sound
-
-pub returns : goal.returns
-returns g c =
+pub returns-clause-after : goal.returns-clause-after
+returns-clause-after g c =
     let m = c.args.mask.now in
     let s = g.H.Holder.sheet c.args.holder.now in
-    let P = c.of_turned.ensures in
-    record {
-      answer = c.filter.ensures.answer m (map turned (points_of m)) P;
-      after = c.filter.ensures.after m (map turned (points_of m)) P ∙ dilated_verdict g.H.Cell.Kind.lattice m (shown g.H.Cell.Kind.means s) s (length c.args.table.now);
-      refused = c.filter.ensures.refused m (map turned (points_of m)) P;
-      table = c.filter.auto.table;
-    }
+    c.filter.ensures.after m (map turned (points_of m)) c.of_turned.ensures ∙ dilated_verdict g.H.Cell.Kind.lattice m (shown g.H.Cell.Kind.means s) s (length c.args.table.now)

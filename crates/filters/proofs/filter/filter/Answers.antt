@@ -1,5 +1,5 @@
 -- The picks of the sweep are those of the mask.
-use Rattle.std.proofs.Common.{◌≡◌, ℕ, ◌+◌, ◌-◌, ◌*◌, length, take, Some, Ok, sym, ap, ◌∙◌, ap₂}
+use Rattle.std.proofs.Common.{◌≡◌, ℕ, ◌+◌, ◌-◌, ◌*◌, length, Some, Ok, sym, ap, ◌∙◌, ap₂}
 use Rattle.masks.specs.Cost.{line_picks}
 use Rattle.morphology.specs.Refusals.{judged}
 use Rattle.filters.specs.Calls.{verdict, answer_by}
@@ -8,7 +8,7 @@ use Rattle.filters.proofs.filter.filter.Goals as goal
 
 pub returns-clause-answer : goal.returns-clause-answer
 returns-clause-answer g c = λ m ps P.
-    let p = c.args.plan.now in
+    let p = c.args.plan in
     let s = g.H.Holder.sheet c.args.holder.now in
     let n = length c.args.table.now in
     let ew : c.size-size.result.width ≡ s.width = c.size-size.ensures.width in
@@ -16,6 +16,6 @@ returns-clause-answer g c = λ m ps P.
     let goes : verdict s m n ≡ Ok m = sym (ap₂ (λ (w h : ℕ). judged w h (Some m) n) ew eh) ∙ c.in_ok-admit.ensures.verdict m ps P in
     ap (λ (r : ℕ). Ok r)
     (c.sweep.ensures.picks
-    ∙ ap₂ (λ (w h : ℕ). (h + p.rows - 1) * line_picks w (take p.sizes p.lengths) + h * (w * (p.count - 1))) ew eh
+    ∙ ap₂ (λ (w h : ℕ). (h + p.rows - 1) * line_picks w p.lengths + h * (w * (length p.chords.items - 1))) ew eh
     ∙ plan_picks m.rows ps p s.width s.height P)
     ∙ sym (ap (λ v. answer_by v s.width s.height) goes)

@@ -4,7 +4,6 @@ use Rattle.sheets.specs.Sheet.{shown}
 use Rattle.morphology.specs.Filters.{points_of}
 use Rattle.morphology.specs.Refusals.{judged_find}
 use Rattle.morphology.specs.Find.{find_picks}
-use Rattle.filters.specs.Calls.{WhereRefused}
 use Rattle.filters.specs.Find.{Found}
 use Rattle.filters.proofs.Verdicts.{plan_picks, find_judged}
 use Rattle.filters.proofs.find.find.Goals as goal
@@ -52,17 +51,3 @@ returns-clause-found g c =
     ∙ ap₂ (λ (i j : ℕ). find_picks fore back i j) ew eh in
     subst (λ v. Found k fore back (shown g.H.Cell.Kind.means s) v places c.scan.new.places (Ok c.scan.result)) (sym v)
     (H.0, H.1, ap₂ (λ (i j : ℕ). Ok (i, j)) H.2 picks, H.3)
-
-pub returns-clause-refused : goal.returns-clause-refused
-returns-clause-refused g c =
-    let s = g.H.Holder.sheet c.args.holder.now in
-    let fore = c.args.fore.now in
-    let back = c.args.back.now in
-    let n = length c.args.fore_table.now in
-    let l = length c.args.back_table.now in
-    let a = c.in_ok-admit.ensures.verdict fore (points_of fore) c.of-fore_plan.ensures in
-    let b = c.in_ok-admit-2.ensures.verdict back (points_of back) c.of-back_plan.ensures in
-    let v : judged_find s.width s.height fore n back l ≡ Ok back =
-    sym (ap₂ (λ (i j : ℕ). judged_find i j fore n back l) c.size-size.ensures.width c.size-size.ensures.height)
-    ∙ find_judged c.size-size.result.width c.size-size.result.height n l fore back _ a b in
-    subst (λ v. WhereRefused v (c.scan.new.fore_table ≡ c.args.fore_table.now × c.scan.new.back_table ≡ c.args.back_table.now)) (sym v) tt

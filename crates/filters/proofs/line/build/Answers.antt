@@ -1,73 +1,74 @@
 -- Each length is made from the one before it: two runs of that overlap and make one of this.
-use Rattle.std.proofs.Common.{◌≡◌, ℕ, ◌+◌, ◌-◌, ◌*◌, ◌<◌, ◌≤◌, length, take, sym, refl, ap, ◌∙◌, add-mul, arith}
-use Rattle.cells.specs.Lattice.{Under}
+use Rattle.std.proofs.Common.{◌≡◌, ℕ, ◌+◌, ◌-◌, ◌*◌, ◌<◌, ◌≤◌, List, length, get_or, take, ap, ◌∙◌, subst, ap₂, add-mul, arith}
+use Rattle.std.proofs.lemmas.List.{take_all}
+use Rattle.cells.specs.Lattice.{Lattice, Under}
 use Rattle.masks.specs.Cost.{line_picks}
 use Rattle.plans.specs.Plan.{length_of}
 use Rattle.filters.specs.Side.{side}
 use Rattle.filters.specs.Line.{held}
 use Rattle.filters.proofs.Rooms.{part_room, part_next}
-use Rattle.filters.proofs.Lines.{runs_first, runs_more, picks_none, picks_more}
+use Rattle.filters.proofs.Lines.{runs_more, picks_more}
 use Rattle.filters.proofs.line.build.Goals as goal
-
-pub overflow_add-start : goal.overflow_add-start
-overflow_add-start g c =
-    let k : 1 ≤ c.loop-i.i = omega arith in
-    omega (arith, part_room c.loop-i.i c.args.plan.now.sizes (c.args.w + 30) c.loop-i-test.true, part_next c.loop-i.i (c.args.w + 30) k)
-
-pub overflow_add-start-in-loop-i : goal.overflow_add-start-in-loop-i
-overflow_add-start-in-loop-i g c = omega (arith, part_room c.loop-i.i c.args.plan.now.sizes (c.args.w + 30) c.loop-i-test.true)
 
 pub lengthen-picks-requires : goal.lengthen-picks-requires
 lengthen-picks-requires g c =
+    let p = c.args.course.now.plan in
     let k : 1 ≤ c.loop-i.i = omega arith in
-    let a = part_room c.loop-i.i c.args.plan.now.sizes (c.args.w + 30) c.loop-i-test.true in
-    let b = part_next c.loop-i.i (c.args.w + 30) k in
-    let up = c.requires.plan.climbs c.loop-i.i k c.loop-i-test.true in
-    let lo = c.requires.plan.top c.loop-i.i c.loop-i-test.true in
-    let one = c.requires.plan.low (c.loop-i.i - 1) (omega arith) in
-    (omega (arith, a, b, up, lo, one), omega (arith, a, b, up, lo, one))
+    let lt : c.loop-i.i < length p.lengths = omega (arith, ap length c.as_slice-lengths.ensures.items) in
+    let a = part_room c.loop-i.i (length p.lengths) (c.args.course.now.width + 30) lt in
+    let b = part_next c.loop-i.i (c.args.course.now.width + 30) k in
+    let up = p.sound.climbs c.loop-i.i k lt in
+    let lo = p.sound.top c.loop-i.i lt in
+    let one = p.sound.low (c.loop-i.i - 1) (omega arith) in
+    rw (c.stride-stride.ensures, c.as_slice-lengths.ensures.items) (omega (arith, a, b, up, lo, one), omega (arith, a, b, up, lo, one))
 
-pub loop-i-init : goal.loop-i-init
-loop-i-init g c = (
-  omega arith,
-  sym (picks_none c.args.w c.args.plan.now.lengths),
-  runs_first (side g.S.Side.lower g.K.Kind.lattice) g.K.Kind.means c.args.plan.now c.args.w c.args.table.now c.args.start c.requires.plan.first,
-  λ x h. refl,
-  λ x h. refl,
-)
+-- what is built from length i - 1, where a line has n cells and the lengths are xs
+abbrev Built : {K C : Type 0} → Lattice C → (K → C) → List K → List K → ℕ → ℕ → ℕ → List ℕ → Type 0
+Built k f old new start i n xs =
+    (x : ℕ) → x < n + 1 - get_or xs i 0 →
+    held k f new (start + i * n + x) ≡ k.meet (held k f old (start + (i - 1) * n + x)) (held k f old (start + (i - 1) * n + x + (get_or xs i 0 - get_or xs (i - 1) 0)))
 
 pub loop-i-preserved : goal.loop-i-preserved
 loop-i-preserved g c =
     let k = side g.S.Side.lower g.K.Kind.lattice in
-    let p = c.args.plan.now in
-    let w = c.args.w in
+    let f = g.K.Kind.means in
+    let p = c.args.course.now.plan in
+    let w = c.args.course.now.width in
+    let start = c.args.start in
     let i = c.loop-i.i in
     let e = c.lengthen-picks.ensures in
+    let n = c.stride-stride.ensures in
+    let xs = c.as_slice-lengths.ensures.items in
     let i1 : 1 ≤ i = omega arith in
-    let ih = c.loop-i-test.true in
-    let top = c.requires.plan.top i ih in
-    let low = c.requires.plan.low i ih in
-    let few = c.requires.plan.few_lengths in
-    let lt : i < length c.args.plan.now.lengths = omega arith in (
-      omega (arith, e.picks, low),
-      omega (arith, e.picks, low, top, picks_more w p.lengths i i1 lt),
-      runs_more k g.K.Kind.means (λ x a. Under k a (held k g.K.Kind.means c.args.table.now (c.args.start + x))) p w c.loop-i.table c.lengthen-picks.new.table c.args.start i c.requires.plan i1 ih
-          (λ x h. e.built k.greatest x h) (λ x h. e.before k.greatest x h) c.loop-i.invariant.2,
-      λ x h. let lt : x < c.args.start + i * (w + 30) = omega arith in e.before k.greatest x lt ∙ c.loop-i.invariant.3 x h,
-      λ x h. let more = add-mul i 1 (w + 30) in
-          let a : c.args.start + i * (w + 30) + (w + 30 + 1 - length_of p i) ≤ x = omega (arith, more, low) in
-          let b : c.args.start + i * (w + 30) ≤ x = omega (arith, more) in
-          e.after k.greatest x a ∙ c.loop-i.invariant.4 x b,
+    let lt : i < length p.lengths = omega (arith, ap length xs) in
+    let top = p.sound.top i lt in
+    let low = p.sound.low i lt in
+    let few = p.sound.few_lengths in
+    let more = add-mul i 1 (w + 30) in
+    let picks : c.lengthen-picks.result ≡ w + 30 + 1 - length_of p i = e.picks ∙ ap₂ (λ (m : ℕ) (l : List ℕ). m + 1 - get_or l i 0) n xs in
+    let built = subst (λ m. Built k f c.loop-i.table c.lengthen-picks.new.table start i m p.lengths) n
+    (subst (Built k f c.loop-i.table c.lengthen-picks.new.table start i c.stride-stride.result) xs (e.built k.greatest)) in
+    let from : start + i * c.stride-stride.result ≡ start + i * (w + 30) = ap (λ m. start + i * m) n in
+    let to : start + i * c.stride-stride.result + (c.stride-stride.result + 1 - get_or c.as_slice-lengths.result.now i 0) ≡ start + i * (w + 30) + (w + 30 + 1 - length_of p i) =
+    ap₂ (λ (m : ℕ) (l : List ℕ). start + i * m + (m + 1 - get_or l i 0)) n xs in (
+      omega (arith, picks, low),
+      omega (arith, picks, low, top, picks_more w p.lengths i i1 lt),
+      runs_more k f (λ x a. Under k a (held k f c.args.table.now (start + x))) p w c.loop-i.table c.lengthen-picks.new.table start i i1 lt
+          built (λ x h. e.before k.greatest x (omega (arith, from))) c.loop-i.invariant.2,
+      λ x h. e.before k.greatest x (omega (arith, from)) ∙ c.loop-i.invariant.3 x h,
+      λ x h. let b : start + i * (w + 30) ≤ x = omega (arith, more) in e.after k.greatest x (omega (arith, to, more, low)) ∙ c.loop-i.invariant.4 x b,
     )
 
 pub returns : goal.returns
 returns g c =
-    let p = c.args.plan.now in
-    let e : c.loop-i.i ≡ p.sizes = omega (arith, c.loop-i.auto.i-end c.requires.plan.some_length) in
+    let p = c.args.course.now.plan in
+    let w = c.args.course.now.width in
+    let long = ap length c.as_slice-lengths.ensures.items in
+    let e : c.loop-i.i ≡ length p.lengths = omega (arith, long, c.loop-i.auto.i-end (omega (arith, long, p.sound.some_length))) in
     record {
-      few = omega (arith, e, c.requires.plan.few_lengths);
-      picks = c.loop-i.invariant.1 ∙ ap (λ (n : ℕ). line_picks c.args.w (take n p.lengths)) e;
+      few = omega (arith, e, p.sound.few_lengths);
+      picks = c.loop-i.invariant.1 ∙ ap (λ (n : ℕ). line_picks w (take n p.lengths)) e ∙ ap (line_picks w) (take_all (length p.lengths) p.lengths (omega arith));
       runs = λ i h. let lt : i < c.loop-i.i = omega (arith, e) in c.loop-i.invariant.2 i lt;
       before = c.loop-i.invariant.3;
-      after = λ x h. c.loop-i.invariant.4 x (omega (arith, ap (λ (n : ℕ). n * (c.args.w + 30)) e));
+      after = λ x h. c.loop-i.invariant.4 x (omega (arith, ap (λ (n : ℕ). n * (w + 30)) e));
     }

@@ -9,7 +9,7 @@ use Rattle.filters.proofs.line.build.Given as goal
 abbrev pub invariant-loop-i : goal.invariant-loop-i
 invariant-loop-i g l =
     (l.picks ≤ l.i * 2078) ×
-    (l.picks ≡ line_picks l.w (take l.i l.plan.lengths)) ×
-    Runs (side g.S.Side.lower g.K.Kind.lattice) g.K.Kind.means (λ x a. Under (side g.S.Side.lower g.K.Kind.lattice) a (held (side g.S.Side.lower g.K.Kind.lattice) g.K.Kind.means l.initial.table (l.start + x))) l.plan l.w l.table l.start l.i ×
+    (l.picks ≡ line_picks l.course.width (take l.i l.course.plan.lengths)) ×
+    Runs (side g.S.Side.lower g.K.Kind.lattice) g.K.Kind.means (λ x a. Under (side g.S.Side.lower g.K.Kind.lattice) a (held (side g.S.Side.lower g.K.Kind.lattice) g.K.Kind.means l.initial.table (l.start + x))) l.course.plan l.course.width l.table l.start l.i ×
     ((x : ℕ) → x < l.start → held (side g.S.Side.lower g.K.Kind.lattice) g.K.Kind.means l.table x ≡ held (side g.S.Side.lower g.K.Kind.lattice) g.K.Kind.means l.initial.table x) ×
-    ((x : ℕ) → l.start + l.i * (l.w + 30) ≤ x → held (side g.S.Side.lower g.K.Kind.lattice) g.K.Kind.means l.table x ≡ held (side g.S.Side.lower g.K.Kind.lattice) g.K.Kind.means l.initial.table x)
+    ((x : ℕ) → l.start + l.i * (l.course.width + 30) ≤ x → held (side g.S.Side.lower g.K.Kind.lattice) g.K.Kind.means l.table x ≡ held (side g.S.Side.lower g.K.Kind.lattice) g.K.Kind.means l.initial.table x)

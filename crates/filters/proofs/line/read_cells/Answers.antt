@@ -1,20 +1,19 @@
--- One entry more of the row, or of what follows it.
-use Rattle.std.proofs.Common.{◌+◌, ◌<◌, ◌≤◌, length, sym, ◌∙◌, arith}
-use Rattle.filters.proofs.Entries.{line_more, below_kept, above_kept}
-use Rattle.filters.proofs.Places.{cell_column}
+-- One cell more of the row.
+use Rattle.std.proofs.Common.{◌≡◌, ◌+◌, ◌<◌, length, Some, None, Option, refl, ap, ◌∙◌, arith}
+use Rattle.std.specs.Option.{unwrap_or}
+use Rattle.filters.specs.Line.{or_else}
+use Rattle.filters.proofs.Entries.{fill_more}
 use Rattle.filters.proofs.line.read_cells.Goals as goal
 
-pub loop-x-preserved : goal.loop-x-preserved
-loop-x-preserved g c =
+means_or : {K C : Type 0} (f : K → C) (o : Option K) (pad : K) → f (unwrap_or o pad) ≡ or_else f (f pad) o
+means_or f None pad = refl
+means_or f (Some c) pad = refl
+
+pub loop-i-preserved : goal.loop-i-preserved
+loop-i-preserved g c =
     let f = g.H.Cell.Kind.means in
-    let t = c.loop-x.table in
-    let start = c.args.start in
-    let v = c.cell_or.result in
-    let lt : c.args.start + (15 + c.loop-x.x) < length c.loop-x.table = omega arith in (
-      λ z p k h. let m : k < 15 + c.loop-x.x + 1 = omega arith in
-          line_more f z t start (15 + c.loop-x.x) v _ lt
-          (c.cell_or.ensures ∙ sym (cell_column f (f c.args.pad) (g.H.Holder.sheet c.args.h.now) c.args.y c.loop-x.x))
-          (c.loop-x.invariant.0 z p) k m,
-      λ z. below_kept f z t c.args.table.now start (15 + c.loop-x.x) v (c.loop-x.invariant.1 z),
-      λ z k h. let m : c.args.start + (15 + c.loop-x.x + 1) ≤ k = omega arith in above_kept f z t c.args.table.now start (15 + c.loop-x.x) v (c.loop-x.invariant.2 z) k m,
-    )
+    let pad = c.args.pad in
+    let s = g.H.Holder.sheet c.args.h.now in
+    let lt : c.loop-i.i < length c.loop-i.cells = omega arith in
+    let e = ap f (c.unwrap_or.ensures ∙ ap (λ o. unwrap_or o pad) c.cell.ensures) ∙ means_or f (s.cell (c.args.from + c.loop-i.i) c.args.y) pad in
+    λ z. fill_more f z c.loop-i.cells c.loop-i.i c.unwrap_or.result (λ i. or_else f (f pad) (s.cell (c.args.from + i) c.args.y)) lt e (c.loop-i.invariant z)

@@ -1,5 +1,5 @@
--- The array has the first chord's run; then the pick of the chords before k; then the slot has it, too.
-use Rattle.std.proofs.Common.{◌≡◌, ℕ, ◌+◌, ◌-◌, ◌*◌, ◌<◌, ◌≤◌, length}
+-- The array has the first chord's run; then the pick of the chords passed; then the slot has it, too.
+use Rattle.std.proofs.Common.{◌≡◌, ℕ, ◌+◌, ◌*◌, ◌<◌, ◌≤◌, length}
 use Rattle.filters.specs.Side.{side, cell_at}
 use Rattle.filters.specs.Row.{run_of, picked}
 use Rattle.filters.proofs.row.gather.Given as goal
@@ -7,20 +7,20 @@ use Rattle.filters.proofs.row.gather.Given as goal
 abbrev pub invariant-loop-i : goal.invariant-loop-i
 invariant-loop-i g l =
     (length l.row ≡ 2048) ×
-    ((z : g.K.Kind.Cell) (x : ℕ) → x < l.i → cell_at g.K.Kind.means z l.row x ≡ run_of g.K.Kind.means z l.table l.plan (l.w + 30) l.oldest x 0)
+    ((z : g.K.Kind.Cell) (x : ℕ) → x < l.i → cell_at g.K.Kind.means z l.row x ≡ run_of g.K.Kind.means z l.table l.course.plan (l.course.width + 30) l.oldest x 0)
 
-abbrev pub invariant-loop-k : goal.invariant-loop-k
-invariant-loop-k g l =
+abbrev pub invariant-loop-chord : goal.invariant-loop-chord
+invariant-loop-chord g l =
     (length l.row ≡ 2048) ×
-    (l.picks ≡ l.w * (l.k - 1)) ×
-    ((z : g.K.Kind.Cell) (x : ℕ) → x < l.w → cell_at g.K.Kind.means z l.row x ≡ picked (side g.S.Side.lower g.K.Kind.lattice) (run_of g.K.Kind.means z l.table l.plan (l.w + 30) l.oldest x) (l.k - 1))
+    (l.picks ≡ l.course.width * l.chord-index) ×
+    ((z : g.K.Kind.Cell) (x : ℕ) → x < l.course.width → cell_at g.K.Kind.means z l.row x ≡ picked (side g.S.Side.lower g.K.Kind.lattice) (run_of g.K.Kind.means z l.table l.course.plan (l.course.width + 30) l.oldest x) l.chord-index)
 
 abbrev pub invariant-loop-x : goal.invariant-loop-x
 invariant-loop-x g l =
     (length l.row ≡ 2048) ×
-    (l.picks ≡ l.w * (l.k - 1) + l.x) ×
-    ((z : g.K.Kind.Cell) (x : ℕ) → x < l.x → cell_at g.K.Kind.means z l.row x ≡ picked (side g.S.Side.lower g.K.Kind.lattice) (run_of g.K.Kind.means z l.table l.plan (l.w + 30) l.oldest x) l.k) ×
-    ((z : g.K.Kind.Cell) (x : ℕ) → l.x ≤ x → x < l.w → cell_at g.K.Kind.means z l.row x ≡ picked (side g.S.Side.lower g.K.Kind.lattice) (run_of g.K.Kind.means z l.table l.plan (l.w + 30) l.oldest x) (l.k - 1))
+    (l.picks ≡ l.course.width * l.chord-index + l.x) ×
+    ((z : g.K.Kind.Cell) (x : ℕ) → x < l.x → cell_at g.K.Kind.means z l.row x ≡ picked (side g.S.Side.lower g.K.Kind.lattice) (run_of g.K.Kind.means z l.table l.course.plan (l.course.width + 30) l.oldest x) (l.chord-index + 1)) ×
+    ((z : g.K.Kind.Cell) (x : ℕ) → l.x ≤ x → x < l.course.width → cell_at g.K.Kind.means z l.row x ≡ picked (side g.S.Side.lower g.K.Kind.lattice) (run_of g.K.Kind.means z l.table l.course.plan (l.course.width + 30) l.oldest x) l.chord-index)
 
 abbrev pub invariant-loop-c : goal.invariant-loop-c
 invariant-loop-c g l =

@@ -1,104 +1,107 @@
 -- A row more is a result. When all rows are, the sheet is the erosion.
-use Rattle.std.proofs.Common.{◌≡◌, ℕ, ◌+◌, ◌-◌, ◌*◌, ◌<◌, take, sym, refl, ap, ◌∙◌, subst, arith}
+use Rattle.std.proofs.Common.{◌≡◌, ℕ, ◌+◌, ◌-◌, ◌*◌, ◌≤◌, length, Some, refl, ap, ◌∙◌, subst, arith}
 use Rattle.masks.specs.Cost.{line_picks}
-use Rattle.filters.specs.Side.{side, Best}
+use Rattle.filters.specs.Side.{side}
 use Rattle.filters.specs.Line.{held}
-use Rattle.filters.specs.Sweep.{Through, Mixed, Ring, Gathered}
+use Rattle.filters.specs.Sweep.{Mixed}
+use Rattle.filters.specs.declared.course.Course.{Course}
+use Rattle.filters.proofs.Courses.{Goes, goes_same, first_picks, row_picks, laid_gathered, row_long, row_cell, stands_first, stands_next}
 use Rattle.filters.proofs.Erosions.{mixed_eroded}
-use Rattle.filters.proofs.Rooms.{slot_room, part_room, times_more, rows_picks}
-use Rattle.filters.proofs.Rings.{mixed_more, slot_in, row_has}
+use Rattle.filters.proofs.Rooms.{times_more, rows_picks}
+use Rattle.filters.proofs.Rings.{mixed_more, row_has}
 use Rattle.filters.proofs.sweep.sweep.Goals as goal
 
 pub loop-y-init : goal.loop-y-init
 loop-y-init g c =
     let k = side g.S.Side.lower g.H.Cell.Kind.lattice in
     let f = g.H.Cell.Kind.means in
-    let p = c.args.plan.now in
-    let w = c.args.w in
     let s = g.H.Holder.sheet c.args.h.now in
-    let o = c.requires.plan in
-    let from : p.rows - 1 ≡ 0 + p.rows - 1 = omega arith in (
-      omega (arith, o.origin),
-      omega (arith, c.first_lines-picks.ensures.few),
-      omega (arith, c.first_lines-picks.ensures.picks),
+    let p = c.args.plan in
+    let w = c.args.size.width in
+    let course = c.new-ring.result.course in
+    let new = c.first_lines-picks.new.self in
+    let table = c.first_lines-picks.new.table in
+    let first = c.first_lines-picks.ensures in
+    let made = c.new-ring.ensures in
+    let G : Goes f k.greatest p w course = record { plan = made.plan; width = made.width; pad = ap f made.pad ∙ c.pad.ensures } in (
+      omega (arith, first.few),
+      omega (arith, first.picks, first_picks f k.greatest p w course G),
+      goes_same f k.greatest p w new.course course first.course G,
       record { width = refl; height = refl; done = λ x j h l. absurd (omega arith); left = λ x j h. refl; beside = λ x j h. refl },
-      subst (λ (n : ℕ). Ring k f (f c.pad-pad.result) s p w c.first_lines-picks.new.table (p.rows - 1) n (p.rows - 1)) from c.first_lines-picks.ensures.ring,
+      stands_first k f s new.course course table new.slot first.course first.slot first.ring,
     )
 
 pub put_row-requires : goal.put_row-requires
 put_row-requires g c =
     let k = side g.S.Side.lower g.H.Cell.Kind.lattice in
     let f = g.H.Cell.Kind.means in
-    let p = c.args.plan.now in
+    let p = c.args.plan in
+    let w = c.args.size.width in
     let s = g.H.Holder.sheet c.args.h.now in
     let t = g.H.Holder.sheet c.loop-y.h in
     let y = c.loop-y.y in
     let ew = c.requires.size.1.1.0 in
     let eh = c.requires.size.1.1.1 in
+    let ring = c.next_row-picks.new.self in
+    let G = goes_same f k.greatest p w ring.course c.loop-y.ring.course c.next_row-picks.ensures.course c.loop-y.invariant.2 in
     let M : Mixed k f p s.width s t y = subst (λ (n : ℕ). Mixed k f p n s t y) ew c.loop-y.invariant.3 in
-    let slot_in_ring : c.next-slot.result < p.rows = subst (λ (n : ℕ). n < p.rows) (sym c.next-slot.ensures) (slot_in p.rows c.loop-y.slot c.loop-y.invariant.0) in
-    record {
-      room = omega (arith, slot_room c.next-slot.result p.rows p.sizes (c.args.w + 30) slot_in_ring, part_room 0 p.sizes (c.args.w + 30) c.requires.plan.some_length, c.requires.room, c.loop-y.auto.table, c.next_row-picks.auto.table);
-      on = λ x h. row_has k f p s t y x (g.met.H.Holder.whole c.args.h.now) M (omega (arith, eh)) (omega (arith, ew));
-    }
+    let long = row_long f k.greatest p w ring G c.next_row-picks.new.table c.row.result.now
+    (omega (arith, c.requires.room, c.loop-y.auto.table, c.first_lines-picks.auto.table, c.next_row-picks.auto.table)) c.row.ensures in
+    record { on = λ x h. row_has k f p s t y x (g.met.H.Holder.whole c.args.h.now) M (omega (arith, eh)) (omega (arith, long, ew)) }
 
 pub loop-y-preserved : goal.loop-y-preserved
 loop-y-preserved g c =
     let k = side g.S.Side.lower g.H.Cell.Kind.lattice in
     let f = g.H.Cell.Kind.means in
-    let z = f c.pad-pad.result in
-    let p = c.args.plan.now in
-    let w = c.args.w in
+    let p = c.args.plan in
+    let w = c.args.size.width in
+    let course = c.loop-y.ring.course in
     let s = g.H.Holder.sheet c.args.h.now in
     let t = g.H.Holder.sheet c.loop-y.h in
     let t' = g.H.Holder.sheet c.put_row.new.h in
     let y = c.loop-y.y in
-    let slot = c.loop-y.slot in
+    let ring = c.next_row-picks.new.self in
     let new = c.next_row-picks.new.table in
-    let o = c.requires.plan in
-    let lp = line_picks w (take p.sizes p.lengths) in
-    let row = lp + w * (p.count - 1) in
-    let more = times_more y (y + 1) row refl in
-    let M = c.loop-y.invariant.3 in
-    let e = c.next-slot.ensures in
-    let after : y + p.rows ≡ y + 1 + p.rows - 1 = omega (arith, o.origin) in
-    let both = c.next_row-picks.ensures.row s M.left c.loop-y.invariant.4 in
-    let G : Gathered k f z s p w new (c.next-slot.result * p.sizes * (w + 30)) y =
-    subst (λ (n : ℕ). Gathered k f z s p w new (n * p.sizes * (w + 30)) y) (sym e) both.0 in (
-      subst (λ (n : ℕ). n < p.rows) (sym e) (slot_in p.rows slot c.loop-y.invariant.0),
-      omega (arith, c.next_row-picks.ensures.few, c.loop-y.invariant.1, times_more y (y + 1) (64418 + 2048 * 495) refl),
-      omega (arith, c.next_row-picks.ensures.picks, c.loop-y.invariant.2, more),
-      mixed_more k f p w s t t' y (y + 1) refl M c.put_row.ensures.width c.put_row.ensures.height
+    let next = c.next_row-picks.ensures in
+    let I = c.loop-y.invariant in
+    let e = next.course in
+    let G = goes_same f k.greatest p w ring.course course e I.2 in
+    let more = times_more y (y + 1) (line_picks w p.lengths + w * (length p.chords.items - 1)) refl in
+    let both = next.row s I.3.left I.4 in
+    let start : ℕ = ring.slot * length course.plan.lengths * (course.width + 30) in
+    let same = ap (λ (x : Course g.row.H-Cell.Denot). ring.slot * length x.plan.lengths * (x.width + 30)) e in
+    let room : p.rows * length p.lengths * (w + 30) ≤ length new = omega (arith, c.requires.room, c.loop-y.auto.table, c.first_lines-picks.auto.table, c.next_row-picks.auto.table) in
+    let long = row_long f k.greatest p w ring G new c.row.result.now room c.row.ensures in
+    let row = row_cell f k.greatest p w ring G new c.row.result.now room c.row.ensures k.greatest k.greatest in
+    let put = c.put_row.ensures in (
+      omega (arith, next.few, I.0, times_more y (y + 1) (64418 + 2048 * 495) refl),
+      omega (arith, next.picks ∙ row_picks f k.greatest p w course I.2, I.1, more),
+      G,
+      mixed_more k f p w s t t' y (y + 1) refl I.3 put.width put.height
           (λ x h. (
-            held k f new (c.next-slot.result * p.sizes * (w + 30) + x),
-            c.put_row.ensures.cells k.greatest x h,
-            subst (λ v. Best k (Through k f v s p x y) (held k f new (c.next-slot.result * p.sizes * (w + 30) + x))) c.pad-pad.ensures (G x h),
+            held k f new (start + x),
+            put.cells k.greatest x (omega (arith, long)) ∙ ap (λ v. Some v) (row x h ∙ ap (λ (n : ℕ). held k f new (n + x)) same),
+            laid_gathered f k.greatest p w course I.2 k s new start y both.0 x h,
           ))
-          c.put_row.ensures.beside c.put_row.ensures.rest,
-      subst (λ (n : ℕ). Ring k f z s p w new c.next-slot.result n (p.rows - 1)) after
-          (subst (λ (n : ℕ). Ring k f z s p w new n (y + p.rows) (p.rows - 1)) (sym e) both.1),
+          (λ i j h. put.beside i j (omega (arith, long))) put.rest,
+      stands_next k f s ring.course course new ring.slot y e both.1,
     )
 
 pub returns : goal.returns
 returns g c =
     let k = side g.S.Side.lower g.H.Cell.Kind.lattice in
     let f = g.H.Cell.Kind.means in
-    let p = c.args.plan.now in
-    let w = c.args.w in
+    let p = c.args.plan in
+    let w = c.args.size.width in
     let s = g.H.Holder.sheet c.args.h.now in
     let t = g.H.Holder.sheet c.loop-y.h in
-    let o = c.requires.plan in
     let ew = c.requires.size.1.1.0 in
     let eh = c.requires.size.1.1.1 in
-    let lp = line_picks w (take p.sizes p.lengths) in
-    let row = w * (p.count - 1) in
-    let end : c.loop-y.y ≡ c.args.height = omega (arith, c.loop-y.auto.y-end) in
-    let M : Mixed k f p s.width s t s.height =
-    subst (λ (n : ℕ). Mixed k f p n s t s.height) ew (subst (Mixed k f p w s t) (end ∙ eh) c.loop-y.invariant.3) in
+    let lp = line_picks w p.lengths in
+    let row = w * (length p.chords.items - 1) in
+    let end : c.loop-y.y ≡ c.args.size.height = omega (arith, c.loop-y.auto.y-end) in
+    let M : Mixed k f p s.width s t s.height = subst (λ (n : ℕ). Mixed k f p n s t s.height) ew (subst (Mixed k f p w s t) (end ∙ eh) c.loop-y.invariant.3) in
     record {
-      picks =
-          c.loop-y.invariant.2
-          ∙ ap (λ (y : ℕ). (p.rows - 1) * lp + y * (lp + row)) end
-          ∙ rows_picks c.args.height p.rows lp row (omega (arith, o.origin));
+      picks = c.loop-y.invariant.1 ∙ ap (λ (y : ℕ). (p.rows - 1) * lp + y * (lp + row)) end ∙ rows_picks c.args.size.height p.rows lp row (omega (arith, p.sound.origin));
       after = λ ps P. mixed_eroded k f p s t ps M (g.met.H.Holder.whole c.args.h.now) P;
     }

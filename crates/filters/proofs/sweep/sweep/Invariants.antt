@@ -1,14 +1,15 @@
 -- The rows before y are results, and the lines before the one that completes row y stand in the ring.
-use Rattle.std.proofs.Common.{◌≡◌, ◌+◌, ◌-◌, ◌*◌, ◌<◌, ◌≤◌, take}
+use Rattle.std.proofs.Common.{◌≡◌, ◌+◌, ◌-◌, ◌*◌, ◌≤◌, length}
 use Rattle.masks.specs.Cost.{line_picks}
 use Rattle.filters.specs.Side.{side}
-use Rattle.filters.specs.Sweep.{Mixed, Ring}
+use Rattle.filters.specs.Sweep.{Mixed, Stands}
+use Rattle.filters.proofs.Courses.{Goes}
 use Rattle.filters.proofs.sweep.sweep.Given as goal
 
 abbrev pub invariant-loop-y : goal.invariant-loop-y
 invariant-loop-y g l =
-    (l.slot < l.plan.rows) ×
     (l.picks ≤ 30 * 64418 + l.y * (64418 + 2048 * 495)) ×
-    (l.picks ≡ (l.plan.rows - 1) * line_picks l.w (take l.plan.sizes l.plan.lengths) + l.y * (line_picks l.w (take l.plan.sizes l.plan.lengths) + l.w * (l.plan.count - 1))) ×
-    Mixed (side g.S.Side.lower g.H.Cell.Kind.lattice) g.H.Cell.Kind.means l.plan l.w (g.H.Holder.sheet l.initial.h) (g.H.Holder.sheet l.h) l.y ×
-    Ring (side g.S.Side.lower g.H.Cell.Kind.lattice) g.H.Cell.Kind.means (g.H.Cell.Kind.means l.pad) (g.H.Holder.sheet l.initial.h) l.plan l.w l.table l.slot (l.y + l.plan.rows - 1) (l.plan.rows - 1)
+    (l.picks ≡ (l.fn.plan.rows - 1) * line_picks l.fn.size.width l.fn.plan.lengths + l.y * (line_picks l.fn.size.width l.fn.plan.lengths + l.fn.size.width * (length l.fn.plan.chords.items - 1))) ×
+    Goes g.H.Cell.Kind.means (side g.S.Side.lower g.H.Cell.Kind.lattice).greatest l.fn.plan l.fn.size.width l.ring.course ×
+    Mixed (side g.S.Side.lower g.H.Cell.Kind.lattice) g.H.Cell.Kind.means l.fn.plan l.fn.size.width (g.H.Holder.sheet l.initial.h) (g.H.Holder.sheet l.h) l.y ×
+    Stands (side g.S.Side.lower g.H.Cell.Kind.lattice) g.H.Cell.Kind.means l.ring.course (g.H.Holder.sheet l.initial.h) l.table l.ring.slot (l.y + l.ring.course.plan.rows - 1) (l.ring.course.plan.rows - 1)

@@ -1,5 +1,5 @@
 -- A turn ticks one chord's length.
-use Rattle.std.proofs.Common.{Bool, true, List, get_or, set, pos, sym, refl, ap, ◌∙◌, length-set}
+use Rattle.std.proofs.Common.{◌<◌, Bool, true, List, length, get_or, set, pos, sym, refl, ◌∙◌, subst, ap₂, length-set}
 use Rattle.masks.specs.declared.chord.Chord.{Chord}
 use Rattle.masks.proofs.Halving.{ticked_none, ticked_more}
 use Rattle.masks.proofs.lengths.ticked.Goals as goal
@@ -11,7 +11,11 @@ pub loop-c-init : goal.loop-c-init
 loop-c-init c = (refl, sym ticked_none)
 
 pub loop-c-preserved : goal.loop-c-preserved
-loop-c-preserved c = (
-  simp length-set c.loop-c.invariant.0,
-  ap (λ (s : List Bool). set s (get_or c.args.chords.now c.loop-c.c-index none).length true) c.loop-c.invariant.1 ∙ sym (ticked_more c.args.chords.now c.loop-c.c-index none c.loop-c-test.true),
-)
+loop-c-preserved c =
+    let cs = c.args.chords.now in
+    let i = c.loop-c.c-index in
+    let e = c.as_slice-c-items.ensures.items in (
+      simp length-set c.loop-c.invariant.0,
+      ap₂ (λ (s : List Bool) (xs : List Chord). set s (get_or xs i none).length true) c.loop-c.invariant.1 e
+          ∙ sym (ticked_more cs i none (subst (λ (xs : List Chord). i < length xs) e c.loop-c-test.true)),
+    )

@@ -1,9 +1,10 @@
 -- A row adds its chords, at most 16.
-use Rattle.std.proofs.Common.{List, ◌++◌, map, length, sym, ap, ◌∙◌, arith}
+use Rattle.std.proofs.Common.{◌≡◌, List, ◌++◌, map, length, sym, ap, ◌∙◌, subst, arith}
 use Rattle.std.proofs.lemmas.List.{length-append, length-map}
-use Rattle.masks.specs.Chords.{starts, chord_at}
+use Rattle.std.specs.List.{AllByRecursion}
+use Rattle.masks.specs.Chords.{starts, chord_at, chords, OnGrid}
 use Rattle.masks.specs.declared.chord.Chord.{Chord}
-use Rattle.masks.proofs.Runs.{chords_none, chords_more, starts_few, all_runs}
+use Rattle.masks.proofs.Runs.{chords_none, chords_more, starts_few, all_runs, chords_on_grid}
 use Rattle.masks.proofs.chord.ChordList.of.Goals as goal
 
 pub loop-r-init : goal.loop-r-init
@@ -25,3 +26,8 @@ loop-r-preserved c =
 
 pub returns-clause-runs : goal.returns-clause-runs
 returns-clause-runs c = all_runs c.args.mask.now.rows
+
+pub invariant_of-result : goal.invariant_of-result
+invariant_of-result c =
+    let e : c.loop-r.r ≡ 31 = omega arith in
+    subst (AllByRecursion OnGrid) (sym (c.loop-r.invariant.1 ∙ ap (chords c.args.mask.now.rows) e)) (chords_on_grid c.args.mask.now.rows)
