@@ -2,14 +2,14 @@
 ghost use Rattle.std.specs.Prelude.{◌≡◌};
 ghost use Rattle.drawings.specs.declared.drawn.DrawnFault.TheVariants.{Unread};
 ghost use Rattle.texts.specs.declared.input.InputFault.TheVariants.{Unread as UnreadInput};
-ghost use Rattle.maskplan.specs.declared.fault.PlanFault.TheVariants.{Drawn, Memory, Input};
+ghost use Rattle.maskplan.specs.declared.fault.PlanFault.TheVariants.{WrongSize as WrongSheet, Drawn, Memory, Input};
 
 use drawings::drawing::DrawingFault;
 use drawings::drawn::DrawnFault;
-use sheets::holder::Size;
 use std::alloc::AllocError;
 use std::{fmt, io};
 use texts::input::InputFault;
+use texts::size::WrongSize;
 
 #[derive(Clone, Copy)]
 pub enum PlanFault {
@@ -17,8 +17,8 @@ pub enum PlanFault {
     Usage,
     WidthIsNoNumber,
     HeightIsNoNumber,
-    // The width or height is 0 or above 2,048, as the filters refuse it.
-    WrongSize(Size),
+    // The filters refuse the size.
+    WrongSize(WrongSize),
     // The drawing draws no mask.
     Drawn(DrawnFault),
     // The input gives no lines.
@@ -27,6 +27,14 @@ pub enum PlanFault {
     Unwritten,
     // There is no memory for it; this says nothing of the drawing.
     Memory,
+}
+
+impl From<WrongSize> for PlanFault {
+    ghost from_gives = { λ s r. r ≡ WrongSheet s };
+
+    fn from(refused: WrongSize) -> PlanFault {
+        PlanFault::WrongSize(refused)
+    }
 }
 
 impl From<DrawnFault> for PlanFault {
@@ -45,6 +53,7 @@ impl From<DrawingFault> for PlanFault {
     }
 }
 
+// `?` converts but once, so that each fault takes in want of memory by itself.
 impl From<AllocError> for PlanFault {
     ghost from_gives = { λ _ r. r ≡ Memory };
 
@@ -84,11 +93,7 @@ impl fmt::Display for PlanFault {
                 f,
                 "the height is not a whole number from 1 to 2048"
             ),
-            PlanFault::WrongSize(size) => write!(
-                f,
-                "refused 9: the sheet is {} by {}; each goes from 1 to 2048",
-                size.width, size.height
-            ),
+            PlanFault::WrongSize(size) => write!(f, "{size}"),
             PlanFault::Drawn(fault) => write!(f, "{fault}"),
             PlanFault::Input(InputFault::NoText | InputFault::Unread) => {
                 write!(f, "the drawing is no text")

@@ -4,7 +4,7 @@
 // What can keep a plan from being made, and the line that says so.
 mod fault;
 
-// The size of the sheet and the costs, as values.
+// The costs, as values.
 mod plan;
 
 // The plan as text.
@@ -18,6 +18,7 @@ use std::io::ErrorKind;
 use std::process::ExitCode;
 use std::{env, io};
 use texts::input::input_lines;
+use texts::size::sized;
 
 fn main(rt: HostRuntime) -> ExitCode {
     match run(&rt) {
@@ -50,7 +51,7 @@ fn size(rt: &HostRuntime) -> Result<Size, PlanFault> {
     let Ok(height) = height.as_str().parse::<usize>() else {
         return Err(PlanFault::HeightIsNoNumber);
     };
-    plan::sized(Size { width, height })
+    Ok(sized(Size { width, height })?)
 }
 
 // Why the plan is not printed to its end.

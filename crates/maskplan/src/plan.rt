@@ -1,10 +1,7 @@
-// The size of the sheet, and what filters cost on it.
-ghost use Rattle.std.specs.Prelude.{◌≡◌, ◌*◌, ◌&&◌, if◌then◌else◌, Ok, Err};
+// What filters cost on a sheet.
+ghost use Rattle.std.specs.Prelude.{◌≡◌, ◌*◌};
 ghost use Rattle.masks.specs.Cost.{spanned, table_cells, filter_picks, capped};
-ghost use Rattle.maskplan.specs.Sizes.{fits};
-ghost use Rattle.maskplan.specs.declared.fault.PlanFault.TheVariants.{WrongSize};
 
-use crate::fault::PlanFault;
 use masks::cost;
 use masks::mask::Mask;
 use sheets::holder::Size;
@@ -17,23 +14,6 @@ pub struct Costs {
     pub table: u64,
     pub filter: u64,
     pub opening: u64,
-}
-
-// A size that the filters take: width and height from 1 to 2,048.
-pub fn sized(size: Size) -> Result<Size, PlanFault>
-    ensures { result ≡ (if fits size.width && fits size.height then Ok size else Err (WrongSize size)) }
-{
-    if fits(size.width) && fits(size.height) {
-        Ok(size)
-    } else {
-        Err(PlanFault::WrongSize(size))
-    }
-}
-
-fn fits(n: usize) -> bool
-    ensures { result ≡ fits n }
-{
-    1 <= n && n <= 2048
 }
 
 // The costs under the mask.

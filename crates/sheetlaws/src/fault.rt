@@ -64,6 +64,7 @@ impl From<DrawingFault> for JobFault {
     }
 }
 
+// `?` converts but once, so that each fault takes in want of memory by itself.
 impl From<AllocError> for JobFault {
     ghost from_gives = { λ _ r. r ≡ Memory };
 

@@ -2,6 +2,7 @@
 --     refusal_text r     a refusal
 --     answer_text a      an answer
 --     row_text f cs      a row of the cells cs, whose words f gives
+--     size_text w h      a size that the filters refuse
 use Rattle.std.specs.Prelude.{ℕ, List, [], ◌++◌, codes}
 use Rattle.std.specs.Fmt.{decimal, signed_decimal}
 use Rattle.std.specs.Int.{w32, cast_signed}
@@ -31,3 +32,6 @@ cells_text f cs = flat_map (λ c. codes " " ++ signed_decimal (cast_signed w32 (
 
 abbrev pub row_text : {K : Type 0} → (K → ℕ) → List K → List ℕ
 row_text f cs = codes " " ++ cells_text f cs
+
+abbrev pub size_text : ℕ → ℕ → List ℕ
+size_text w h = codes "refused 9: the sheet is " ++ decimal w ++ codes " by " ++ decimal h ++ codes "; each goes from 1 to 2048"

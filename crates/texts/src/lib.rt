@@ -13,5 +13,8 @@ pub mod part;
 // The sheet of a job.
 pub mod sheet;
 
+// The sizes of sheets that the filters take.
+pub mod size;
+
 // What filters answer and leave, as listings tell it.
 pub mod told;

@@ -2,13 +2,11 @@
 ghost use Rattle.std.specs.Prelude.{◌≡◌, ◌≤◌, ◌<◌, IfOk};
 
 use crate::line::Line;
+use crate::size::{WrongSize, sized};
 use sheets::holder::Size;
 use std::alloc::{AllocFailed, Global};
 use std::fmt;
 use std::str::FromStr;
-
-// The longest side of a sheet that is filtered.
-const LONGEST: usize = 2048;
 
 // Why a sheet cannot be taken in.
 #[derive(Clone, Copy, PartialEq, Eq, Debug)]
@@ -17,8 +15,8 @@ pub enum SheetFault {
     NoCell(usize),
     // The row in the line of this number has not as many cells as the first.
     UnlikeRow(usize),
-    // The width or height is 0 or above 2,048, as the filters refuse it.
-    WrongSize(Size),
+    // The filters refuse its size.
+    WrongSize(WrongSize),
     // There is no memory for it.
     Memory,
 }
@@ -40,16 +38,23 @@ impl fmt::Display for ToldSheetFault {
                 f,
                 "line {line}: this row has not as many cells as the first"
             ),
-            SheetFault::WrongSize(size) => write!(
-                f,
-                "refused 9: the sheet is {} by {}; each goes from 1 to 2048",
-                size.width, size.height
-            ),
+            SheetFault::WrongSize(size) => write!(f, "{size}"),
             SheetFault::Memory => write!(f, "there is not enough memory"),
         }
     }
 }
 
+impl From<WrongSize> for SheetFault {
+    ghost use Rattle.texts.specs.declared.sheet.SheetFault.TheVariants.{WrongSize as WrongSheet};
+
+    ghost from_gives = { λ s r. r ≡ WrongSheet s };
+
+    fn from(refused: WrongSize) -> SheetFault {
+        SheetFault::WrongSize(refused)
+    }
+}
+
+// `?` converts but once, so that each fault takes in want of memory by itself.
 impl<T: Drop> From<AllocFailed<T>> for SheetFault {
     ghost use Rattle.texts.specs.declared.sheet.SheetFault.TheVariants.{Memory};
 
@@ -71,10 +76,7 @@ where
     ensures height { IfOk result (λ p. (1 ≤ p.0.height) × (p.0.height ≤ 2048)) }
 {
     let mut cells = Vec::new(alloc);
-    let size = read_rows(lines, &mut cells)?;
-    if size.height == 0 || size.width > LONGEST || size.height > LONGEST {
-        return Err(SheetFault::WrongSize(size));
-    }
+    let size = sized(read_rows(lines, &mut cells)?)?;
     Ok((size, cells))
 }
 

@@ -1,0 +1,43 @@
+// The sizes of sheets that the filters take.
+ghost use Rattle.std.specs.Prelude.{◌≡◌, ◌&&◌, if◌then◌else◌, Some, Ok, Err};
+ghost use Rattle.morphology.specs.Refusals.{fits};
+ghost use Rattle.texts.specs.Told.{size_text};
+
+use sheets::holder::Size;
+use std::fmt;
+
+// The longest side of a sheet that is filtered.
+const LONGEST: usize = 2048;
+
+// A size that the filters refuse: its width or height is 0 or above 2,048.
+#[derive(Clone, Copy, PartialEq, Eq, Debug)]
+pub struct WrongSize(pub Size);
+
+impl fmt::Display for WrongSize {
+    ghost output = { λ s. Some (size_text s.0.width s.0.height) };
+
+    fn fmt<W: fmt::Write>(&self, f: &mut fmt::Formatter<W>) -> fmt::Result {
+        write!(
+            f,
+            "refused 9: the sheet is {} by {}; each goes from 1 to 2048",
+            self.0.width, self.0.height
+        )
+    }
+}
+
+// The size, where the filters take it: width and height from 1 to 2,048.
+pub fn sized(size: Size) -> Result<Size, WrongSize>
+    ensures { result ≡ (if fits size.width && fits size.height then Ok size else Err (record { 0 = size })) }
+{
+    if fits(size.width) && fits(size.height) {
+        Ok(size)
+    } else {
+        Err(WrongSize(size))
+    }
+}
+
+fn fits(n: usize) -> bool
+    ensures { result ≡ fits n }
+{
+    1 <= n && n <= LONGEST
+}
