@@ -46,13 +46,13 @@ fn letter() -> Result<Mask, MaskFault> {
     ])
 }
 
-// Holds a row of three cells to what is wanted. It goes by number, since the places of a holder are no list.
+// Holds a row of three cells to what is wanted.
 fn shows<H: Holder>(rt: &impl Abort, holder: &H, wanted: [H::Cell; 3])
 where
     H::Cell: Kind + PartialEq + Debug,
 {
-    for x in 0..3 {
-        assert_eq!(rt; holder.cell(x, 0), Some(wanted[x]));
+    for (x, cell) in wanted.iter().enumerate() {
+        assert_eq!(rt; holder.cell(x, 0), Some(*cell));
     }
 }
 

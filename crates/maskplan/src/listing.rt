@@ -31,14 +31,10 @@ fn print_points(rt: &HostRuntime, points: &[Point], count: usize) -> io::Result<
 
 // The smallest rectangle that has every point and the origin.
 fn print_picture(rt: &HostRuntime, mask: &Mask, points: &[Point]) -> io::Result<()> {
-    let north = points.iter().fold(0, |least, p| p.v.min(least));
-    let south = points.iter().fold(0, |most, p| p.v.max(most));
+    let (north, south) = ChordList::of(mask).extent();
     let west = points.iter().fold(0, |least, p| p.u.min(least));
     let east = points.iter().fold(0, |most, p| p.u.max(most));
-    let mut columns = Vec::new(rt.alloc());
-    for u in west..east.saturating_add(1) {
-        columns.push(u)?;
-    }
+    let columns: Vec<i32> = (west..east.saturating_add(1)).collect(rt.alloc())?;
     println!(rt; "mask")?;
     for v in north..south.saturating_add(1) {
         let row = picture_row(rt.alloc(), mask, v, columns.as_slice())?;

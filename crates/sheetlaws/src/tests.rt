@@ -118,8 +118,8 @@ fn shows(rt: &impl Abort, album: &Album, name: Standing, wanted: [u8; 20]) {
         Some(picture) => {
             let cells = picture.cells.as_slice();
             assert_eq!(rt; cells.len(), 20);
-            for i in 0..20 {
-                assert_eq!(rt; cells[i], Gray(wanted[i]));
+            for (cell, level) in cells.iter().zip(&wanted) {
+                assert_eq!(rt; *cell, Gray(*level));
             }
         }
         None => assert!(rt; false),

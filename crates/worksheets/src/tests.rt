@@ -45,8 +45,8 @@ fn load<H: Holder + Drop>(
 where
     H::Cell: Kind,
 {
-    for x in 0..3 {
-        assert!(rt; holder.put(x, 0, row[x]));
+    for (x, cell) in row.iter().enumerate() {
+        assert!(rt; holder.put(x, 0, *cell));
     }
     let mut sheet = Worksheet::new(holder);
     sheet.lay(pair()?);
@@ -58,8 +58,8 @@ fn shows<H: Holder>(rt: &impl Abort, sheet: &Worksheet<H>, wanted: [H::Cell; 3])
 where
     H::Cell: Kind + PartialEq + Debug,
 {
-    for x in 0..3 {
-        assert_eq!(rt; sheet.holder().cell(x, 0), Some(wanted[x]));
+    for (x, cell) in wanted.iter().enumerate() {
+        assert_eq!(rt; sheet.holder().cell(x, 0), Some(*cell));
     }
 }
 
@@ -328,8 +328,8 @@ where
     let mut sheet = load(rt, holder, row)?;
     assert_eq!(rt; sheet.mid(second, table), Ok(128));
     shows(rt, &sheet, mid);
-    for x in 0..3 {
-        assert_eq!(rt; second.cell(x, 0), Some(closed[x]));
+    for (x, cell) in closed.iter().enumerate() {
+        assert_eq!(rt; second.cell(x, 0), Some(*cell));
     }
     Ok(())
 }

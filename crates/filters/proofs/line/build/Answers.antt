@@ -58,17 +58,3 @@ loop-i-preserved g c =
       λ x h. e.before k.greatest x (omega (arith, from)) ∙ c.loop-i.invariant.3 x h,
       λ x h. let b : start + i * (w + 30) ≤ x = omega (arith, more) in e.after k.greatest x (omega (arith, to, more, low)) ∙ c.loop-i.invariant.4 x b,
     )
-
-pub returns : goal.returns
-returns g c =
-    let p = c.args.course.now.plan in
-    let w = c.args.course.now.width in
-    let long = ap length c.as_slice-lengths.ensures.items in
-    let e : c.loop-i.i ≡ length p.lengths = omega (arith, long, c.loop-i.auto.i-end (omega (arith, long, p.sound.some_length))) in
-    record {
-      few = omega (arith, e, p.sound.few_lengths);
-      picks = c.loop-i.invariant.1 ∙ ap (λ (n : ℕ). line_picks w (take n p.lengths)) e ∙ ap (line_picks w) (take_all (length p.lengths) p.lengths (omega arith));
-      runs = λ i h. let lt : i < c.loop-i.i = omega (arith, e) in c.loop-i.invariant.2 i lt;
-      before = c.loop-i.invariant.3;
-      after = λ x h. c.loop-i.invariant.4 x (omega (arith, ap (λ (n : ℕ). n * (w + 30)) e));
-    }
