@@ -4,7 +4,7 @@ ghost use Rattle.masks.specs.declared.mask.Mask.{Mask};
 ghost use Rattle.masks.specs.declared.point.Point.{Point};
 ghost use Rattle.sheets.specs.Sheet.{shown};
 ghost use Rattle.morphology.specs.Calls.{sheet_by};
-ghost use Rattle.morphology.specs.Refusals.{fits, judged};
+ghost use Rattle.morphology.specs.Refusals.{judged};
 ghost use Rattle.morphology.specs.declared.call.Filter.TheVariants.{Erode, Dilate};
 ghost use Rattle.plans.specs.Plan.{PlanOf};
 ghost use Rattle.filters.specs.Side.{side};
@@ -14,7 +14,7 @@ use crate::side::{Joins, Meets, Side};
 use crate::sweep::sweep;
 use cells::kind::Kind;
 use masks::mask::Mask;
-use morphology::refusal::Refusal;
+use morphology::refusal::{Refusal, can_filter};
 use plans::plan::Plan;
 use sheets::holder::{Holder, Size};
 
@@ -69,9 +69,9 @@ pub(crate) fn admit(size: Size, plan: &Plan, cells: usize) -> Result<(), Refusal
     if !can_filter(size) {
         return Err(Refusal::WrongSize(size));
     }
-    let needs = plan.rows * plan.lengths.as_slice().len() * (size.width + 30);
-    if cells < needs {
-        return Err(Refusal::ShortTable(needs, cells));
+    let needed = plan.rows * plan.lengths.as_slice().len() * (size.width + 30);
+    if cells < needed {
+        return Err(Refusal::ShortTable { needed, lent: cells });
     }
     Ok(())
 }
@@ -82,11 +82,4 @@ pub fn judge(size: Size, mask: &Mask, cells: usize) -> Result<Mask, Refusal>
 {
     admit(size, &Plan::of(mask), cells)?;
     Ok(*mask)
-}
-
-// Whether a sheet of the size can be filtered: neither extent is 0 or above 2,048.
-pub fn can_filter(size: Size) -> bool
-    ensures { result ≡ (fits size.width && fits size.height) }
-{
-    1 <= size.width && size.width <= 2048 && 1 <= size.height && size.height <= 2048
 }

@@ -226,7 +226,7 @@ fn the_letter_wants_306_cells(rt: HostRuntime) -> Result<(), Fail> {
     let mut short = [Gray(0); 305];
     assert_eq!(rt;
         letter_answer(&mut short)?,
-        Err(Refusal::ShortTable(306, 305))
+        Err(Refusal::ShortTable { needed: 306, lent: 305 })
     );
     Ok(())
 }
@@ -330,12 +330,12 @@ fn search_with(
 
 #[test]
 fn find_asks_for_the_fore_table_first(rt: HostRuntime) -> Result<(), Fail> {
-    let short = Refusal::ShortTable(66, 65);
+    let short = Refusal::ShortTable { needed: 66, lent: 65 };
     assert_eq!(rt;
         search_with(&mut [Gray(0); 65], &mut [Gray(0); 1])?,
         Err(short)
     );
-    let short = Refusal::ShortTable(297, 296);
+    let short = Refusal::ShortTable { needed: 297, lent: 296 };
     assert_eq!(rt;
         search_with(&mut [Gray(0); 66], &mut [Gray(0); 296])?,
         Err(short)

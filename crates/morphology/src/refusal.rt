@@ -1,8 +1,11 @@
 // Why a filter is refused.
-ghost use Rattle.std.specs.Prelude.{◌≡◌};
-ghost use Rattle.morphology.specs.Refusals.{number};
+ghost use Rattle.std.specs.Prelude.{◌≡◌, ◌&&◌};
+ghost use Rattle.morphology.specs.Refusals.{number, fits};
 
 use sheets::holder::Size;
+
+// The longest side of a sheet that is filtered.
+const LONGEST: usize = 2048;
 
 // The ground on which a filter is refused.
 #[derive(Clone, Copy, PartialEq, Eq, Debug)]
@@ -11,8 +14,8 @@ pub enum Refusal {
     WrongSize(Size),
     // No mask is laid.
     NoMask,
-    // The table needs the first number of cells, and has only the second.
-    ShortTable(usize, usize),
+    // The table needs so many cells, and the lent one has fewer.
+    ShortTable { needed: usize, lent: usize },
     // The size of one sheet is not that of the other.
     UnlikeSizes(Size, Size),
 }
@@ -25,8 +28,22 @@ impl Refusal {
         match self {
             Refusal::WrongSize(_) => 9,
             Refusal::NoMask => 10,
-            Refusal::ShortTable(_, _) => 11,
+            Refusal::ShortTable { .. } => 11,
             Refusal::UnlikeSizes(_, _) => 12,
         }
     }
+}
+
+// Whether a sheet of the size can be filtered: neither extent is 0 or above 2,048.
+pub fn can_filter(size: Size) -> bool
+    ensures { result ≡ (fits size.width && fits size.height) }
+{
+    fits(size.width) && fits(size.height)
+}
+
+// Whether a width or a height can be filtered.
+fn fits(n: usize) -> bool
+    ensures { result ≡ fits n }
+{
+    1 <= n && n <= LONGEST
 }

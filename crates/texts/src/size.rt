@@ -3,11 +3,9 @@ ghost use Rattle.std.specs.Prelude.{◌≡◌, ◌&&◌, if◌then◌else◌, So
 ghost use Rattle.morphology.specs.Refusals.{fits};
 ghost use Rattle.texts.specs.Told.{size_text};
 
+use morphology::refusal::can_filter;
 use sheets::holder::Size;
 use std::fmt;
-
-// The longest side of a sheet that is filtered.
-const LONGEST: usize = 2048;
 
 // A size that the filters refuse: its width or height is 0 or above 2,048.
 #[derive(Clone, Copy, PartialEq, Eq, Debug)]
@@ -29,15 +27,9 @@ impl fmt::Display for WrongSize {
 pub fn sized(size: Size) -> Result<Size, WrongSize>
     ensures { result ≡ (if fits size.width && fits size.height then Ok size else Err (record { 0 = size })) }
 {
-    if fits(size.width) && fits(size.height) {
+    if can_filter(size) {
         Ok(size)
     } else {
         Err(WrongSize(size))
     }
-}
-
-fn fits(n: usize) -> bool
-    ensures { result ≡ fits n }
-{
-    1 <= n && n <= LONGEST
 }

@@ -42,7 +42,7 @@ fn show_table<W: fmt::Write>(refusal: Refusal, f: &mut fmt::Formatter<W>) -> fmt
     ensures { WritesOnOk W.write_str_gives f.old result (table_text refusal) f.new }
 {
     match refusal {
-        Refusal::ShortTable(needed, lent) => {
+        Refusal::ShortTable { needed, lent } => {
             write!(f, ", the table needs {needed} cells and has {lent}")
         }
         _ => Ok(()),

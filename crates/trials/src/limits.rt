@@ -53,7 +53,7 @@ fn made(mask: Result<Mask, MaskFault>) -> anyhow::Result<Mask> {
 fn tell_answer(rt: &HostRuntime, answer: Result<u64, Refusal>) -> io::Result<()> {
     match answer {
         Ok(picks) => println!(rt; "picks {picks}"),
-        Err(Refusal::ShortTable(needed, lent)) => {
+        Err(Refusal::ShortTable { needed, lent }) => {
             println!(rt; "refused 11 needed {needed} lent {lent}")
         }
         Err(Refusal::WrongSize(size)) => {

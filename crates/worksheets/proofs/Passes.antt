@@ -1,11 +1,11 @@
 -- A filter of two passes: the second goes ahead exactly where the first did.
-use Rattle.std.proofs.Common.{◌≡◌, ℕ, ◌+◌, ◌*◌, ◌^◌, ◌<◌, ◌≤◌, Bool, true, false, cond, ◌&&◌, List, length, ◌+ℤ◌, ◌-ℤ◌, Ok, Err, Option, Result, sym, refl, ap, ◌∙◌, subst, ap₂, arith}
+use Rattle.std.proofs.Common.{◌≡◌, ℕ, ◌+◌, ◌*◌, ◌^◌, ◌<◌, ◌≤◌, Bool, true, false, cond, ◌&&◌, List, length, ◌+ℤ◌, ◌-ℤ◌, Some, Ok, Err, Option, Result, sym, refl, ap, ◌∙◌, subst, ap₂, arith}
 use Rattle.std.proofs.lemmas.Bool.Decides.{nat_tests}
 use Rattle.cells.specs.Lattice.{Lattice, dual}
 use Rattle.masks.specs.Cost.{filter_picks}
 use Rattle.masks.specs.declared.mask.Mask.{Mask}
 use Rattle.masks.proofs.CostBounds.{filter_picks_few}
-use Rattle.sheets.specs.Sheet.{Sheet}
+use Rattle.sheets.specs.Sheet.{Sheet, shown}
 use Rattle.morphology.specs.Calls.{State, filtered, picks, verdict, sheet_by, answered_by, answered, after}
 use Rattle.morphology.specs.Filters.{points_of}
 use Rattle.morphology.specs.Refusals.{fits, sized, by_mask, judged}
@@ -15,9 +15,9 @@ use Rattle.morphology.specs.declared.call.Filter.TheVariants.{Erode, Dilate, Ope
 use Rattle.morphology.specs.declared.refusal.Refusal.{Refusal}
 use Rattle.morphology.specs.declared.refusal.Refusal.TheVariants.{WrongSize}
 use Rattle.morphology.proofs.Gathers.{gathered_width, gathered_height}
-use Rattle.filters.specs.Calls.{WhereRefused}
+use Rattle.filters.specs.Calls.{answer_by, WhereRefused, answered as one_answered, verdict as one_verdict}
 use Rattle.worksheets.specs.declared.worksheet.Worksheet.{Worksheet}
-use Rattle.worksheets.specs.Performed.{state, Performed}
+use Rattle.worksheets.specs.Performed.{state, under, Performed}
 
 -- a sheet that is filtered is not too large for its picks to be counted
 fits_few : (n : ℕ) → fits n ≡ true → n ≤ 2048
@@ -47,6 +47,25 @@ pub record Halves (one two both : Filter) : Type 1 where
   pub height : {C : Type 0} (k : Lattice C) (m : Mask) (g : Sheet C) → (filtered k one m g).height ≡ g.height
   pub one_picks : (m : Mask) (w h : ℕ) → picks one m w h ≡ filter_picks m.rows w h
   pub two_picks : (m : Mask) (w h : ℕ) → picks two m w h ≡ filter_picks m.rows w h
+
+-- a filter of one pass, from what is promised of an erosion or a dilation
+module _ (q : Filter) (one : (m : Mask) (w h : ℕ) → picks q m w h ≡ filter_picks m.rows w h) where
+  one_answer : (v : Result Mask Refusal) (w h : ℕ) → answer_by v w h ≡ answered_by q v w h
+  one_answer (Ok m) w h = ap (λ n. Ok n) (sym (one m w h))
+  one_answer (Err r) w h = refl
+
+  pub one_pass : {K C S : Type 0} (k : Lattice C) (f : K → C) (sheet : S → Sheet K) (m : Mask) (h h' : S) (t t' : List K) (r : Result ℕ Refusal) →
+      r ≡ one_answered (sheet h) m (length t) →
+      shown f (sheet h') ≡ sheet_by k q (one_verdict (sheet h) m (length t)) (shown f (sheet h)) →
+      WhereRefused (one_verdict (sheet h) m (length t)) ((sheet h' ≡ sheet h) × (t' ≡ t)) → length t' ≡ length t →
+      Performed k f sheet q (under m h) (under m h') t t' r
+  one_pass k f sheet m h h' t t' r a e b l =
+      record {
+        answer = a ∙ one_answer (one_verdict (sheet h) m (length t)) (sheet h).width (sheet h).height;
+        after = ap (λ g. record { sheet = g; mask = Some m }) e;
+        refused = b;
+        table = l;
+      }
 
 double : (n : ℕ) → 2 * n ≡ n + n
 double n = omega arith

@@ -7,9 +7,10 @@ ghost use Rattle.morphology.specs.Filters.{points_of};
 ghost use Rattle.morphology.specs.Mid.{Between};
 ghost use Rattle.worksheets.specs.Mid.{Blended, judged_sheets, PerformedMid};
 
-use crate::masked::close;
+use crate::masked::filter;
 use crate::worksheet::Worksheet;
 use cells::kind::Measured;
+use morphology::call::Filter;
 use morphology::refusal::Refusal;
 use sheets::copy::copy_into;
 use sheets::holder::Holder;
@@ -36,7 +37,7 @@ where
         }
         let _ = copy_into(&self.holder, second);
         let opening = self.open(table)?;
-        let closing = close(second, &mask, table)?;
+        let closing = filter(Filter::Close, second, &mask, table)?;
         blend(&mut self.holder, second);
         Ok(opening + closing)
     }

@@ -2,13 +2,11 @@
 ghost use Rattle.std.specs.Prelude.{◌≡◌, length};
 ghost use Rattle.morphology.specs.Laws.{Adjunction};
 ghost use Rattle.morphology.specs.FourSheets.{FourSheets};
-ghost use Rattle.worksheets.specs.Performed.{Performed};
 ghost use Rattle.worksheets.specs.Runs.{within, made, Called, Ran, Stands};
 
 use crate::worksheet::Worksheet;
 use cells::kind::Kind;
-use morphology::call::{Answer, Call, Filter};
-use morphology::refusal::Refusal;
+use morphology::call::{Answer, Call};
 use sheets::holder::Holder;
 
 impl<H: Holder> Worksheet<H>
@@ -46,18 +44,6 @@ where
                 let room = (*cells).min(table.len());
                 Answer::from(self.apply(*filter, &mut table[0..room]))
             }
-        }
-    }
-
-    // Applies the filter under the mask that lies, with the lent table, and answers the picks made; or says why not.
-    pub fn apply(&mut self, filter: Filter, table: &mut [H::Cell]) -> Result<u64, Refusal>
-        ensures { Performed H.Cell.Kind.lattice H.Cell.Kind.means H.Holder.sheet filter self.old self.new table.old table.new result }
-    {
-        match filter {
-            Filter::Erode => self.erode(table),
-            Filter::Dilate => self.dilate(table),
-            Filter::Open => self.open(table),
-            Filter::Close => self.close(table),
         }
     }
 }

@@ -238,7 +238,10 @@ fn a_list_goes_on_after_a_refusal(rt: HostRuntime) -> Result<(), Fail> {
         [
             Answer::Refused(Refusal::NoMask),
             Answer::Laid,
-            Answer::Refused(Refusal::ShortTable(66, 65)),
+            Answer::Refused(Refusal::ShortTable {
+                needed: 66,
+                lent: 65
+            }),
             Answer::Picks(64),
             Answer::Picks(64),
             Answer::Laid,
@@ -260,7 +263,10 @@ fn one_list_runs_on_gray_and_on_its_threshold(rt: HostRuntime) -> Result<(), Fai
     let answers = [
         Answer::Laid,
         Answer::Picks(64),
-        Answer::Refused(Refusal::ShortTable(66, 65)),
+        Answer::Refused(Refusal::ShortTable {
+            needed: 66,
+            lent: 65,
+        }),
         Answer::Picks(64),
     ];
     let mut told = [Answer::Laid; 4];
@@ -415,7 +421,10 @@ fn a_refused_mid_changes_neither_sheet(rt: HostRuntime) -> Result<(), Fail> {
     sheet.lay(pair()?);
     assert_eq!(rt;
         sheet.mid(&mut second, &mut table[0..65]),
-        Err(Refusal::ShortTable(66, 65))
+        Err(Refusal::ShortTable {
+            needed: 66,
+            lent: 65
+        })
     );
     let three = Size {
         width: 3,

@@ -11,8 +11,9 @@ use crate::masked;
 use cells::kind::Kind;
 use filters::filter;
 use masks::mask::Mask;
-use morphology::refusal::Refusal;
-use sheets::holder::Holder;
+use morphology::call::Filter;
+use morphology::refusal::{Refusal, can_filter};
+use sheets::holder::{Holder, Size};
 
 // A holder, and the mask that lies on its sheet, if any.
 #[derive(Drop)]
@@ -60,32 +61,36 @@ where
     pub fn erode(&mut self, table: &mut [H::Cell]) -> Result<u64, Refusal>
         ensures { Performed H.Cell.Kind.lattice H.Cell.Kind.means H.Holder.sheet Erode self.old self.new table.old table.new result }
     {
-        let mask = self.laid()?;
-        masked::erode(&mut self.holder, &mask, table)
+        self.apply(Filter::Erode, table)
     }
 
     // Dilates the sheet, likewise.
     pub fn dilate(&mut self, table: &mut [H::Cell]) -> Result<u64, Refusal>
         ensures { Performed H.Cell.Kind.lattice H.Cell.Kind.means H.Holder.sheet Dilate self.old self.new table.old table.new result }
     {
-        let mask = self.laid()?;
-        masked::dilate(&mut self.holder, &mask, table)
+        self.apply(Filter::Dilate, table)
     }
 
     // Opens the sheet: an erosion, and then a dilation. The answer is the picks of both.
     pub fn open(&mut self, table: &mut [H::Cell]) -> Result<u64, Refusal>
         ensures { Performed H.Cell.Kind.lattice H.Cell.Kind.means H.Holder.sheet Open self.old self.new table.old table.new result }
     {
-        let mask = self.laid()?;
-        masked::open(&mut self.holder, &mask, table)
+        self.apply(Filter::Open, table)
     }
 
     // Closes the sheet: a dilation, and then an erosion. The answer is the picks of both.
     pub fn close(&mut self, table: &mut [H::Cell]) -> Result<u64, Refusal>
         ensures { Performed H.Cell.Kind.lattice H.Cell.Kind.means H.Holder.sheet Close self.old self.new table.old table.new result }
     {
+        self.apply(Filter::Close, table)
+    }
+
+    // Applies the filter under the mask that lies, with the lent table, and answers the picks made; or says why not.
+    pub fn apply(&mut self, filter: Filter, table: &mut [H::Cell]) -> Result<u64, Refusal>
+        ensures { Performed H.Cell.Kind.lattice H.Cell.Kind.means H.Holder.sheet filter self.old self.new table.old table.new result }
+    {
         let mask = self.laid()?;
-        masked::close(&mut self.holder, &mask, table)
+        masked::filter(filter, &mut self.holder, &mask, table)
     }
 
     // The mask that a filter with a table of so many cells goes ahead under, or why it does not.
@@ -100,16 +105,15 @@ where
     fn laid(&self) -> Result<Mask, Refusal>
         ensures { MatchResult result (λ m. self.now.mask ≡ Some m) (λ r. (n : ℕ) → verdict (state H.Cell.Kind.means H.Holder.sheet self.now) n ≡ Err r) }
     {
-        self.mask.ok_or(unmasked(&self.holder))
+        self.mask.ok_or(unmasked(self.holder.size()))
     }
 }
 
-// Why a filter is refused where no mask lies, whatever its table: the size, or else the want of a mask.
-fn unmasked<H: Holder>(holder: &H) -> Refusal
-    ensures { (n : ℕ) → judged (H.Holder.sheet holder.now).width (H.Holder.sheet holder.now).height None n ≡ Err result }
+// Why a filter of a sheet of the size is refused where no mask lies, whatever its table: the size, or else the want of a mask.
+fn unmasked(size: Size) -> Refusal
+    ensures { (n : ℕ) → judged size.width size.height None n ≡ Err result }
 {
-    let size = holder.size();
-    if filter::can_filter(size) {
+    if can_filter(size) {
         Refusal::NoMask
     } else {
         Refusal::WrongSize(size)

@@ -1,5 +1,5 @@
 -- Without a mask a filter is refused, whatever the table.
-use Rattle.std.proofs.Common.{◌≡◌, ℕ, Some, None, Err, Option, MatchResult, refl}
+use Rattle.std.proofs.Common.{◌≡◌, ℕ, Some, None, Err, Option, MatchResult, sym, refl, ◌∙◌, ap₂}
 use Rattle.std.specs.Prelude.{ok_or}
 use Rattle.masks.specs.declared.mask.Mask.{Mask}
 use Rattle.morphology.specs.Refusals.{judged}
@@ -13,4 +13,4 @@ by_mask None r w h none = none
 pub returns : goal.returns
 returns g c =
     let s = g.H.Holder.sheet c.args.self.now.holder in
-    rw c.ok_or.ensures.value (by_mask c.args.self.now.mask c.unmasked.result s.width s.height c.unmasked.ensures)
+    rw c.ok_or.ensures.value (by_mask c.args.self.now.mask c.unmasked.result s.width s.height (λ n. ap₂ (λ w h. judged w h None n) (sym c.size.ensures.width) (sym c.size.ensures.height) ∙ c.unmasked.ensures n))

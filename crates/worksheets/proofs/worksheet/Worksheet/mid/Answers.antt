@@ -46,14 +46,14 @@ closing_picks : (g : given.Over) (c : goal.After-blend g) →
     c.in_ok-closing.closing ≡ 2 * filter_picks c.in_ok-mask.mask.rows (g.H.Holder.sheet c.args.self.now.holder).width (g.H.Holder.sheet c.args.self.now.holder).height
 closing_picks g c =
     let m = c.in_ok-mask.mask in
-    picks_made g.H.Cell.Kind.lattice g.H.Cell.Kind.means g.G.Holder.sheet Close (under m c.copy_into.new.to) (under m c.close.new.holder) c.open.new.table c.close.new.table c.in_ok-closing.closing m (second_goes g c) c.in_ok-closing.ensures
+    picks_made g.H.Cell.Kind.lattice g.H.Cell.Kind.means g.G.Holder.sheet Close (under m c.copy_into.new.to) (under m c.filter.new.holder) c.open.new.table c.filter.new.table c.in_ok-closing.closing m (second_goes g c) c.in_ok-closing.ensures
     ∙ ap (λ (s : Sheet g.row.H-Cell.Denot). 2 * filter_picks m.rows s.width s.height) (is_copy g c)
 
 closing : (g : given.Over) (c : goal.After-blend g) →
-    shown g.H.Cell.Kind.means (g.G.Holder.sheet c.close.new.holder) ≡ closed g.H.Cell.Kind.lattice (points_of c.in_ok-mask.mask) (shown g.H.Cell.Kind.means (g.H.Holder.sheet c.args.self.now.holder))
+    shown g.H.Cell.Kind.means (g.G.Holder.sheet c.filter.new.holder) ≡ closed g.H.Cell.Kind.lattice (points_of c.in_ok-mask.mask) (shown g.H.Cell.Kind.means (g.H.Holder.sheet c.args.self.now.holder))
 closing g c =
     let m = c.in_ok-mask.mask in
-    leaves g.H.Cell.Kind.lattice g.H.Cell.Kind.means g.G.Holder.sheet Close (under m c.copy_into.new.to) (under m c.close.new.holder) c.open.new.table c.close.new.table c.in_ok-closing.closing m (second_goes g c) c.in_ok-closing.ensures
+    leaves g.H.Cell.Kind.lattice g.H.Cell.Kind.means g.G.Holder.sheet Close (under m c.copy_into.new.to) (under m c.filter.new.holder) c.open.new.table c.filter.new.table c.in_ok-closing.closing m (second_goes g c) c.in_ok-closing.ensures
     ∙ ap (λ (s : Sheet g.row.H-Cell.Denot). closed g.H.Cell.Kind.lattice (points_of m) (shown g.H.Cell.Kind.means s)) (is_copy g c)
 
 pub overflow_add-result : goal.overflow_add-result
@@ -71,12 +71,12 @@ returns-clause-performed g c =
     let s = g.H.Holder.sheet c.args.self.now.holder in
     let t = g.G.Holder.sheet c.args.second.now in
     let u = g.H.Holder.sheet c.open.new.self.holder in
-    let v = g.G.Holder.sheet c.close.new.holder in
+    let v = g.G.Holder.sheet c.filter.new.holder in
     let r = c.in_ok-opening.opening + c.in_ok-closing.closing in
     let sum : r ≡ 4 * filter_picks m.rows s.width s.height = omega (arith, opening_of g c, closing_picks g c) in
     let O = leaves k f g.H.Holder.sheet Open c.args.self.now c.open.new.self c.args.table.now c.open.new.table c.in_ok-opening.opening m c.in_ok-mask.ensures c.in_ok-opening.ensures in
     record {
-      done = subst (λ v. MidBy k f level v (shown f s) s (g.H.Holder.sheet c.blend.new.first) t (g.G.Holder.sheet c.close.new.holder) c.args.table.now c.close.new.table (Ok r)) (sym (goes g c))
+      done = subst (λ v. MidBy k f level v (shown f s) s (g.H.Holder.sheet c.blend.new.first) t (g.G.Holder.sheet c.filter.new.holder) c.args.table.now c.filter.new.table (Ok r)) (sym (goes g c))
           (ap (λ (n : ℕ). Ok n) sum, mid_sheet k f level (points_of m) s u v (g.H.Holder.sheet c.blend.new.first) (g.met.H.Holder.whole _) O (closing g c) c.blend.ensures, closing g c);
       mask = mask_stays k f g.H.Holder.sheet Open c.args.self.now c.open.new.self c.args.table.now c.open.new.table c.in_ok-opening.opening m c.in_ok-mask.ensures c.in_ok-opening.ensures;
       table = search rules;
@@ -90,7 +90,7 @@ returns-clause-between g c = λ m e.
     let n = c.in_ok-mask.mask in
     let s = g.H.Holder.sheet c.args.self.now.holder in
     let u = g.H.Holder.sheet c.open.new.self.holder in
-    let v = g.G.Holder.sheet c.close.new.holder in
+    let v = g.G.Holder.sheet c.filter.new.holder in
     let one : Ok n ≡ Ok m = sym (goes g c) ∙ e in
     let same : n ≡ m = cc in
     let O = leaves k f g.H.Holder.sheet Open c.args.self.now c.open.new.self c.args.table.now c.open.new.table c.in_ok-opening.opening n c.in_ok-mask.ensures c.in_ok-opening.ensures in
