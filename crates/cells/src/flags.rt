@@ -1,5 +1,4 @@
 // Flags: a set of eight marks.
-ghost use Rattle.std.specs.Prelude.{◌≡◌};
 ghost use Rattle.cells.specs.Kinds.{Marks, marks, marks_of};
 
 use crate::kind::Kind;

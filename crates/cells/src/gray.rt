@@ -1,5 +1,4 @@
 // Gray: a whole number from 0 to 255.
-ghost use Rattle.std.specs.Prelude.{◌≡◌};
 ghost use Rattle.cells.specs.Kinds.{GrayCell, grays, gray_cell};
 
 use crate::kind::{Kind, Measured, Ranked};

@@ -19,7 +19,9 @@ pub mod echo;
 // Cells as words of 32 bits, and back.
 pub mod words;
 
-// The threshold, which takes gray to flags.
+// Words, levels and thresholds at their limits.
 #[cfg(test)]
 mod tests;
+
+// The threshold, which takes gray to flags.
 pub mod threshold;

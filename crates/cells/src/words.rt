@@ -10,7 +10,8 @@ use crate::gray::Gray;
 use crate::height::Height;
 use crate::kind::Kind;
 
-// A kind whose cells have a word of 32 bits each.
+// A kind whose cells have a word of 32 bits each. It has methods of its own, since callers go by what these promise of every
+// kind: beside TryFrom and Into the trait would have a law for each, and each kind two impls more.
 pub trait WordForm: Kind {
     // The stored value of a word, if the word is a cell.
     ghost reads: { ℕ → Maybe Self };

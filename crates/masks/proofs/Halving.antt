@@ -1,8 +1,9 @@
 -- The rule of the length list, from 31 down.
-use Rattle.std.proofs.Common.{◌≡◌, ℕ, zero, suc, ◌+◌, ◌-◌, ◌/◌, ◌<◌, ◌≤◌, Bool, true, false, cond, not, ◌&&◌, ◌||◌, leb, ◌≢◌, List, [], ◌∷◌, ◌++◌, reverse, length, get_or, take, set, replicate, fold, filter, sym, refl, ap, ◌∙◌, subst, inl, inr, arith}
+use Rattle.std.proofs.Common.{◌≡◌, ℕ, zero, suc, ◌+◌, ◌-◌, ◌/◌, ◌<◌, ◌≤◌, Bool, true, false, cond, not, ◌&&◌, ◌||◌, leb, ◌≢◌, List, [], ◌∷◌, ◌++◌, reverse, length, get_or, take, drop, set, replicate, fold, filter, sym, refl, ap, ◌∙◌, subst, inl, inr, add-one, arith}
 use Rattle.std.specs.List.{range_with_len, AllByRecursion}
 use Rattle.std.proofs.Math.Bool.{or-true}
-use Rattle.std.proofs.lemmas.List.{length-set, get_or-set_same, get_or-set_other, reverse-append}
+use Rattle.std.proofs.lemmas.Grind.{get_or_after_one}
+use Rattle.std.proofs.lemmas.List.{length-set, length-take, get_or-take, get_or-set_same, get_or-set_other, reverse-append}
 use Rattle.std.proofs.ByRecursion.{All-weaker}
 use Rattle.std.proofs.lemmas.List.Sums.{fold_push, fold_more}
 use Rattle.std.proofs.lemmas.Bool.{cases_Bool, cases_eq, cases_lt, both_ways, and_parts, or_cases, leb-true, cond-true, cond-false}
@@ -224,14 +225,20 @@ pub rising_none : (s : List Bool) → rising s 0 ≡ []
 unfolding rising
 rising_none s = refl
 
-pub rising_more : (s : List Bool) (a : ℕ) → 1 ≤ a → rising s (a + 1 - 1) ≡ rising s (a - 1) ++ cond (listed s a) (a ∷ []) []
+pub rising_more : (s : List Bool) (i : ℕ) → rising s (i + 1) ≡ rising s i ++ cond (listed s (i + 1)) ((i + 1) ∷ []) []
 unfolding rising
-rising_more s a h =
-    let e : a + 1 - 1 ≡ suc (a - 1) = omega arith in
-    let f : 1 + (a - 1) ≡ a = omega arith in
-    ap (λ (n : ℕ). filter (listed s) (range_with_len 1 n)) e
-    ∙ kept_push_from (listed s) (a - 1) 1
-    ∙ ap (λ (k : ℕ). filter (listed s) (range_with_len 1 (a - 1)) ++ cond (listed s k) (k ∷ []) []) f
+rising_more s i =
+    let e : 1 + i ≡ i + 1 = omega arith in
+    ap (λ (n : ℕ). filter (listed s) (range_with_len 1 n)) (add-one i)
+    ∙ kept_push_from (listed s) i 1
+    ∙ ap (λ (k : ℕ). filter (listed s) (range_with_len 1 i) ++ cond (listed s k) (k ∷ []) []) e
+
+-- the numbers from 1 on
+pub listed_after : (s : List Bool) (i : ℕ) → i < length (take 31 (drop 1 s)) → get_or (take 31 (drop 1 s)) i false ≡ listed s (i + 1)
+listed_after s i h =
+    let e : 1 + i ≡ i + 1 = omega arith in
+    let few = length-take 31 (drop 1 s) in
+    get_or-take 31 (drop 1 s) i false (omega arith) ∙ get_or_after_one s i false ∙ ap (listed s) e
 
 pub lengths_serve : (cs : List Chord) (ch : Chord) → Among cs ch → AllByRecursion OnGrid cs → Serves cs (lengths cs)
 unfolding lengths

@@ -5,7 +5,7 @@ ghost use Rattle.std.specs.List.{AllByRecursion};
 ghost use Rattle.masks.specs.Chords.{run, starts_at, starts, chord_at, chords, Chords, OnGrid};
 ghost use Rattle.masks.specs.Cost.{farthest};
 
-use crate::mask::{Mask, marked};
+use crate::mask::Mask;
 use arrayvec::ArrayVec;
 use std::marker::Model;
 
@@ -43,9 +43,10 @@ impl ChordList {
         ensures list { result ≡ chords mask.now.rows 31 }
         ensures runs { Chords mask.now.rows (chords mask.now.rows 31) }
     {
+        // By number: a chord tells its row.
         let mut list = ArrayVec::new();
         for r in 0..31 {
-            add_row(&mask.rows, r, &mut list);
+            mask.add_row(r, &mut list);
         }
         ChordList { list }
     }
@@ -75,42 +76,45 @@ impl ChordList {
     }
 }
 
-// Puts the chords of row r behind those that are there.
-fn add_row(rows: &[u32; 31], r: usize, list: &mut ArrayVec<Chord, 496>)
-    requires { (r < 31) × (length list.old.items + 16 ≤ 496) }
-    ensures { list.new.items ≡ list.old.items ++ map (chord_at rows.now r) (starts rows.now r 31) }
-{
-    for c in 0..31 {
-        if starts(rows, r, c) {
-            list.push(chord_at(rows, r, c));
+impl Mask {
+    // Puts the chords of row r behind those that are there. To collect them would answer an error that never comes, since the
+    // list has room for all.
+    fn add_row(&self, r: usize, list: &mut ArrayVec<Chord, 496>)
+        requires { (r < 31) × (length list.old.items + 16 ≤ 496) }
+        ensures { list.new.items ≡ list.old.items ++ map (chord_at self.now.rows r) (starts self.now.rows r 31) }
+    {
+        for c in 0..31 {
+            if self.starts(c, r) {
+                list.push(self.chord_at(c, r));
+            }
         }
     }
-}
 
-// Whether a chord starts in column c of row r: a point stands there, and none to its left.
-fn starts(rows: &[u32; 31], r: usize, c: usize) -> bool
-    ensures { result ≡ starts_at rows.now r c }
-{
-    marked(rows, c, r) && (c == 0 || !marked(rows, c - 1, r))
-}
-
-// The chord that starts in column c of row r.
-fn chord_at(rows: &[u32; 31], r: usize, c: usize) -> Chord
-    requires { (r < 31) × (c < 31) }
-    ensures { result ≡ chord_at rows.now r c }
-{
-    Chord {
-        v: r as i32 - 15,
-        start: c as i32 - 15,
-        length: run(rows, c, r),
+    // Whether a chord starts in column c of row r: a point stands there, and none to its left.
+    fn starts(&self, c: usize, r: usize) -> bool
+        ensures { result ≡ starts_at self.now.rows r c }
+    {
+        self.marked(c, r) && (c == 0 || !self.marked(c - 1, r))
     }
-}
 
-// How many points follow each other in row r from column c to the right.
-#[tactic(auto, unfolding(crate::specs::Chords::run))]
-fn run(rows: &[u32; 31], c: usize, r: usize) -> usize
-    requires { c < 31 }
-    ensures { result ≡ run rows.now c r }
-{
-    (c..c + 31).take_while(|k| marked(rows, *k, r)).count()
+    // The chord that starts in column c of row r.
+    fn chord_at(&self, c: usize, r: usize) -> Chord
+        requires { (c < 31) × (r < 31) }
+        ensures { result ≡ chord_at self.now.rows r c }
+    {
+        Chord {
+            v: r as i32 - 15,
+            start: c as i32 - 15,
+            length: self.run(c, r),
+        }
+    }
+
+    // How many points follow each other in row r from column c to the right.
+    #[tactic(auto, unfolding(crate::specs::Chords::run))]
+    fn run(&self, c: usize, r: usize) -> usize
+        requires { c < 31 }
+        ensures { result ≡ run self.now.rows c r }
+    {
+        (c..c + 31).take_while(|k| self.marked(*k, r)).count()
+    }
 }

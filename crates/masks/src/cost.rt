@@ -1,8 +1,7 @@
 // What a filter under a mask costs.
 ghost use Rattle.std.specs.Prelude.{◌≡◌, ◌+◌, ◌-◌, ◌*◌, ◌<◌, ◌≤◌, pos, ◌-ℤ◌, neg_ℤ, ◌≤ℤ◌, sum_by, unsigned_abs};
-ghost use Rattle.std.specs.Int.{int_min, int_max};
 ghost use Rattle.std.specs.List.{AllByRecursion};
-ghost use Rattle.masks.specs.Cost.{farthest, spanned, table_cells, line_picks, filter_picks, capped};
+ghost use Rattle.masks.specs.Cost.{spanned, table_cells, line_picks, filter_picks, capped};
 
 use crate::chord::ChordList;
 use crate::lengths::LengthList;

@@ -100,6 +100,7 @@ fn halved(start: [bool; 32]) -> [bool; 32]
     ensures { result ≡ halved start }
 {
     let mut ticks = start;
+    // By number: the list that is gone through is the one that is added to.
     for a in (2..32).rev() {
         if wants_half(&ticks, a) {
             ticks[(a + 1) / 2] = true;
@@ -113,9 +114,9 @@ fn rising(ticks: &[bool; 32]) -> ArrayVec<usize, 31>
     ensures { result.items ≡ rising ticks.now 31 }
 {
     let mut list = ArrayVec::new();
-    for a in 1..32 {
-        if ticks[a] {
-            list.push(a);
+    for (i, is_listed) in ticks[1..].iter().enumerate() {
+        if *is_listed {
+            list.push(i + 1);
         }
     }
     list

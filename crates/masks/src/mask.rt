@@ -1,5 +1,5 @@
 // The mask itself: a set of points.
-ghost use Rattle.std.specs.Prelude.{◌≡◌, ℕ, ◌-◌, ◌<◌, ◌≤◌, Bool, true, ◌↔◌, List, [], ◌∷◌, length, pos, ◌+ℤ◌, Some, None, Ok, Err, ◌≢◌};
+ghost use Rattle.std.specs.Prelude.{◌≡◌, ℕ, ◌-◌, ◌<◌, ◌≤◌, true, [], ◌∷◌, length, pos, ◌+ℤ◌, Some, None, Ok, Err, ◌≢◌};
 ghost use Rattle.std.specs.List.{prefix_len, AllByRecursion};
 ghost use Rattle.bits.specs.Bit.{bit};
 ghost use Rattle.masks.specs.Points.{Earlier, InOrder, origin, turned, near_offset, near};
@@ -46,7 +46,7 @@ impl Mask {
         ensures answer { result ≡ holds self.now.rows p }
         ensures points { Drawn self.now.rows (points self.now.rows 31) }
     {
-        is_near(p) && marked(&self.rows, grid_place(p.u), grid_place(p.v))
+        is_near(p) && self.marked(grid_place(p.u), grid_place(p.v))
     }
 
     // How many points the mask has. Its list of points goes row by row, each row from the left, and has each once.
@@ -57,9 +57,25 @@ impl Mask {
         // As a sum over the rows, that the total fits would stay open.
         let mut n = 0;
         for r in 0..31 {
-            n += row_count(&self.rows, r);
+            n += self.row_count(r);
         }
         n
+    }
+
+    // Whether a point stands in column c and row r of the grid.
+    pub(crate) fn marked(&self, c: usize, r: usize) -> bool
+        ensures { result ≡ marked self.now.rows c r }
+    {
+        c < 31 && r < 31 && bits::bit(self.rows[r], c as u32)
+    }
+
+    // How many points stand in row r of the grid.
+    #[tactic(auto, unfolding(crate::specs::Rows::columns))]
+    fn row_count(&self, r: usize) -> usize
+        ensures few { result ≤ 31 }
+        ensures answer { result ≡ length (columns self.now.rows r 31) }
+    {
+        (0..31).filter(|c| self.marked(*c, r)).count()
     }
 
     // The mask turned about the origin: every point on the other side.
@@ -106,22 +122,6 @@ fn drawn(list: &[Point]) -> [u32; 31]
         rows[r] = bits::with_bit(rows[r], grid_place(p.u) as u32);
     }
     rows
-}
-
-// Whether a point stands in column c and row r of the grid.
-pub(crate) fn marked(rows: &[u32; 31], c: usize, r: usize) -> bool
-    ensures { result ≡ marked rows.now c r }
-{
-    c < 31 && r < 31 && bits::bit(rows[r], c as u32)
-}
-
-// How many points stand in row r of the grid.
-#[tactic(auto, unfolding(crate::specs::Rows::columns))]
-fn row_count(rows: &[u32; 31], r: usize) -> usize
-    ensures few { result ≤ 31 }
-    ensures answer { result ≡ length (columns rows.now r 31) }
-{
-    (0..31).filter(|c| marked(rows, *c, r)).count()
 }
 
 // The word with its 31 low bits in the opposite order.

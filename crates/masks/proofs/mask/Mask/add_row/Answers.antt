@@ -4,18 +4,18 @@ use Rattle.std.proofs.lemmas.List.{append-nil, append_assoc, length-append, leng
 use Rattle.masks.specs.Chords.{starts, chord_at}
 use Rattle.masks.specs.declared.chord.Chord.{Chord}
 use Rattle.masks.proofs.Runs.{starts_none, starts_yes, starts_no, starts_room}
-use Rattle.masks.proofs.chord.add_row.Goals as goal
-use Rattle.masks.proofs.chord.add_row.Goals.{then-starts, else-starts}
+use Rattle.masks.proofs.mask.Mask.add_row.Goals as goal
+use Rattle.masks.proofs.mask.Mask.add_row.Goals.{then-starts, else-starts}
 
 pub loop-c-init : goal.loop-c-init
 loop-c-init c =
     let front = c.args.list.now.items in
-    sym (ap (λ l. front ++ map (chord_at c.args.rows.now c.args.r) l) (starts_none c.args.rows.now c.args.r) ∙ append-nil front)
+    sym (ap (λ l. front ++ map (chord_at c.args.self.now.rows c.args.r) l) (starts_none c.args.self.now.rows c.args.r) ∙ append-nil front)
 
 -- there is room for the chord that starts here
 pub push-requires : goal.push-requires
 push-requires c =
-    let rows = c.args.rows.now in
+    let rows = c.args.self.now.rows in
     let r = c.args.r in
     let front = c.args.list.now.items in
     let behind = map (chord_at rows r) (starts rows r c.loop-c.c) in
@@ -26,7 +26,7 @@ push-requires c =
 
 pub loop-c-preserved : goal.loop-c-preserved
 loop-c-preserved c =
-    let rows = c.args.rows.now in
+    let rows = c.args.self.now.rows in
     let r = c.args.r in
     let col = c.loop-c.c in
     let front = c.args.list.now.items in
