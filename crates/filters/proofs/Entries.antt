@@ -6,6 +6,7 @@ use borrow.Rule.Slice.PartMut.{put_mid}
 use Rattle.std.proofs.lemmas.List.{get_or-map, map-append, get_or_append_left, get_or-append_right, take-map, get_or-take, get_or-drop, get_or_default, drop-map, length-take-le, length-drop, length-append}
 use Rattle.std.proofs.lemmas.Bool.{cases_lt}
 use Rattle.filters.specs.Side.{cell_at}
+use Rattle.filters.specs.Line.{Beside}
 
 pub at_same : {K C : Type 0} (f : K → C) (z : C) (xs : List K) (i : ℕ) (v : K) → i < length xs → cell_at f z (set xs i v) i ≡ f v
 at_same f z xs i v h = let g : i < length (map f xs) = rw length-map h in rw map-set (get_or-set_same (map f xs) i (f v) z g)
@@ -30,11 +31,12 @@ pub line_more : {K C : Type 0} (f : K → C) (z : C) (xs : List K) (start i : �
 line_more f z xs start i v Q h e below =
     below_more _ _ (λ k l. let ne : start + k ≢ start + i = omega arith in at_other f z xs (start + i) v (start + k) ne ∙ below k l) (at_same f z xs (start + i) v h ∙ e)
 
-pub below_kept : {K C : Type 0} (f : K → C) (z : C) (xs ys : List K) (start i : ℕ) (v : K) → ((k : ℕ) → k < start → cell_at f z xs k ≡ cell_at f z ys k) → (k : ℕ) → k < start → cell_at f z (set xs (start + i) v) k ≡ cell_at f z ys k
-below_kept f z xs ys start i v low k h = let ne : k ≢ start + i = omega arith in at_other f z xs (start + i) v k ne ∙ low k h
-
-pub above_kept : {K C : Type 0} (f : K → C) (z : C) (xs ys : List K) (start i : ℕ) (v : K) → ((k : ℕ) → start + i ≤ k → cell_at f z xs k ≡ cell_at f z ys k) → (k : ℕ) → start + (i + 1) ≤ k → cell_at f z (set xs (start + i) v) k ≡ cell_at f z ys k
-above_kept f z xs ys start i v high k h = let ne : k ≢ start + i = omega arith in let le : start + i ≤ k = omega arith in at_other f z xs (start + i) v k ne ∙ high k le
+-- one entry more is written over ys
+pub beside_more : {K C : Type 0} (f : K → C) (xs ys : List K) (start i : ℕ) (v : K) → Beside f ys xs start (start + i) → Beside f ys (set xs (start + i) v) start (start + (i + 1))
+beside_more f xs ys start i v B = record {
+  before = λ z k h. let ne : k ≢ start + i = omega arith in at_other f z xs (start + i) v k ne ∙ B.before z k h;
+  after = λ z k h. let ne : k ≢ start + i = omega arith in let le : start + i ≤ k = omega arith in at_other f z xs (start + i) v k ne ∙ B.after z k le;
+}
 
 -- one list behind another
 pub at_left : {K C : Type 0} (f : K → C) (z : C) (xs ys : List K) (i : ℕ) → i < length xs → cell_at f z (xs ++ ys) i ≡ cell_at f z xs i
@@ -103,6 +105,10 @@ three_parts f z xs west mid east n k Q en long ew em ee w m e i h =
           let ei : i ≡ n - 15 + (i - (n - 15)) = omega arith in
           ap (cell_at f z (put_mid (n - 15) k second east)) ei ∙ at_part f z (n - 15) k second east f2 (i - (n - 15)) (omega (arith, ee)) ∙ e (i - (n - 15)) (omega arith) ∙ ap Q (sym ei)
     ]
+
+-- all that was written lies in the part
+pub beside_part : {K C : Type 0} (f : K → C) (a k : ℕ) (xs ys : List K) → a ≤ length xs → length ys ≡ k → Beside f xs (put_mid a k xs ys) a (a + k)
+beside_part f a k xs ys m e = record { before = λ z. before_part f z a k xs ys m; after = λ z i h. after_part f z a k xs ys m i e h }
 
 -- the w entries from a on; what stands for those past an end makes no difference within
 pub at_range : {K C : Type 0} (f : K → C) (z z' : C) (xs : List K) (a w i : ℕ) → i < w → a + w ≤ length xs → cell_at f z (slice_range xs a (a + w)) i ≡ cell_at f z' xs (a + i)

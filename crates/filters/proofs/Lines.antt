@@ -1,4 +1,5 @@
 -- The lines of the table, length by length.
+use borrow.Rule.Slice.PartMut.{put_mid}
 use Rattle.std.proofs.Common.{◌≡◌, ℕ, ◌+◌, ◌-◌, ◌*◌, ◌<◌, ◌≤◌, List, [], ◌∷◌, length, get_or, take, drop, sum_by, sym, refl, ap, ◌∙◌, subst, arith, below_more}
 use Rattle.std.proofs.lemmas.List.{length-take-le, take_more, drop-append-le}
 use Rattle.std.proofs.lemmas.List.Sums.{sum_by_push}
@@ -8,20 +9,21 @@ use Rattle.sheets.specs.Sheet.{Sheet}
 use Rattle.plans.specs.declared.plan.Plan.{Plan}
 use Rattle.plans.specs.Plan.{length_of}
 use Rattle.filters.specs.Line.{or_else, place, held, Runs, Holds}
+use Rattle.filters.proofs.Entries.{at_part}
 use Rattle.filters.proofs.Bests.{best_same, best_one, best_at, best_runs}
 use Rattle.filters.proofs.Rooms.{part_room}
 
 -- a line of single cells
-pub runs_first : {K C : Type 0} (k : Lattice C) (f : K → C) (p : Plan) (w : ℕ) (t : List K) (start : ℕ) → length_of p 0 ≡ 1 →
-    Runs k f (λ x a. Under k a (held k f t (start + x))) p w t start 1
-runs_first k f p w t start e i h c l =
+pub runs_first : {K C : Type 0} (k : Lattice C) (f : K → C) (p : Plan) (w : ℕ) (t : List K) → length_of p 0 ≡ 1 →
+    Runs k f (λ x a. Under k a (held k f t x)) p w t 0 1
+runs_first k f p w t e i h c l =
     let i0 : i ≡ 0 = omega arith in
     let n1 : length_of p i ≡ 1 = ap (length_of p) i0 ∙ e in
-    let at0 : start + i * (w + 30) + c ≡ start + (c + 0) = ap (λ (n : ℕ). start + n * (w + 30) + c) i0 ∙ (omega arith) in
-    best_same k (λ a. Under k a (held k f t (start + (c + 0)))) (λ a. (j : ℕ) → j < length_of p i → Under k a (held k f t (start + (c + j)))) _
-    (λ a u j h2. let j0 : 0 ≡ j = omega arith in subst (λ (n : ℕ). Under k a (held k f t (start + (c + n)))) j0 u)
+    let at0 : 0 + i * (w + 30) + c ≡ c + 0 = ap (λ (n : ℕ). 0 + n * (w + 30) + c) i0 ∙ (omega arith) in
+    best_same k (λ a. Under k a (held k f t (c + 0))) (λ a. (j : ℕ) → j < length_of p i → Under k a (held k f t (c + j))) _
+    (λ a u j h2. let j0 : 0 ≡ j = omega arith in subst (λ (n : ℕ). Under k a (held k f t (c + n))) j0 u)
     (λ a u. u 0 (omega arith))
-    (best_at k _ _ _ (ap (held k f t) at0) (best_one k (held k f t (start + (c + 0)))))
+    (best_at k _ _ _ (ap (held k f t) at0) (best_one k (held k f t (c + 0))))
 
 -- one length more
 pub runs_more : {K C : Type 0} (k : Lattice C) (f : K → C) (G : ℕ → C → Type 0) (p : Plan) (w : ℕ) (old new : List K) (start i : ℕ) → 1 ≤ i → i < length p.lengths →
@@ -58,13 +60,22 @@ runs_same k f G G' p w t start n to from R i h c l =
     best_same k _ _ _ (λ a g j m. to (c + j) a (omega arith) (g j m)) (λ a g j m. from (c + j) a (omega arith) (g j m)) (R i h c l)
 
 -- runs over a line that was loaded from the sheet
-pub runs_holds : {K C : Type 0} (k : Lattice C) (f : K → C) (z : C) (s : Sheet K) (p : Plan) (w : ℕ) (mid t : List K) (start l : ℕ) →
-    ((i : ℕ) → i < w + 30 → held k f mid (start + i) ≡ or_else f z (place s p.above i l)) →
-    Runs k f (λ x a. Under k a (held k f mid (start + x))) p w t start (length p.lengths) → Holds k f z s p w t start l
-runs_holds k f z s p w mid t start l e =
-    runs_same k f _ _ p w t start (length p.lengths)
+pub runs_holds : {K C : Type 0} (k : Lattice C) (f : K → C) (z : C) (s : Sheet K) (p : Plan) (w : ℕ) (mid t : List K) (l : ℕ) →
+    ((i : ℕ) → i < w + 30 → held k f mid i ≡ or_else f z (place s p.above i l)) →
+    Runs k f (λ x a. Under k a (held k f mid x)) p w t 0 (length p.lengths) → Holds k f z s p w t 0 l
+runs_holds k f z s p w mid t l e =
+    runs_same k f _ _ p w t 0 (length p.lengths)
     (λ x a h u. subst (Under k a) (e x h) u)
     (λ x a h u. subst (Under k a) (sym (e x h)) u)
+
+-- lines that are put over a part of the table
+pub holds_part : {K C : Type 0} (k : Lattice C) (f : K → C) (z : C) (s : Sheet K) (p : Plan) (w : ℕ) (table lines : List K) (start l m : ℕ) →
+    start ≤ length table → length lines ≡ length p.lengths * (w + 30) → Holds k f z s p w lines 0 l → Holds k f z s p w (put_mid start m table lines) start l
+holds_part k f z s p w table lines start l m room long H i h c lc =
+    let in_slot = part_room i (length p.lengths) (w + 30) h in
+    let low = p.sound.low i h in
+    let e : start + i * (w + 30) + c ≡ start + (0 + i * (w + 30) + c) = omega arith in
+    best_at k _ _ _ (ap (held k f (put_mid start m table lines)) e ∙ at_part f k.greatest start m table lines room (0 + i * (w + 30) + c) (omega (arith, in_slot, low, long, lc))) (H i h c lc)
 
 -- the picks of a line, one length more
 pub picks_none : (w : ℕ) (xs : List ℕ) → line_picks w (take 1 xs) ≡ 0

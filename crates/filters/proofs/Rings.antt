@@ -7,7 +7,7 @@ use Rattle.sheets.specs.Sheet.{Sheet, has, Whole}
 use Rattle.plans.specs.declared.plan.Plan.{Plan}
 use Rattle.plans.specs.Plan.{chord_of}
 use Rattle.filters.specs.Side.{Best}
-use Rattle.filters.specs.Line.{UnderAt, held, Holds}
+use Rattle.filters.specs.Line.{UnderAt, held, Holds, Beside}
 use Rattle.filters.specs.Row.{slot_of, run_of, picked}
 use Rattle.filters.specs.Sweep.{Along, Through, ErodedAt, SameFrom, Mixed, Ring, next_slot}
 use Rattle.filters.proofs.Bests.{best_same, best_at}
@@ -42,14 +42,13 @@ module _ {K C : Type 0} (k : Lattice C) (f : K → C) (z : C) (s : Sheet K) (p :
 
   -- and a slot that no write touched, since all writes were in another
   slot_kept : (old new : List K) (slot sl l : ℕ) → sl ≢ slot →
-      ((x : ℕ) → x < slot * length p.lengths * (w + 30) → held k f new x ≡ held k f old x) →
-      ((x : ℕ) → slot * length p.lengths * (w + 30) + length p.lengths * (w + 30) ≤ x → held k f new x ≡ held k f old x) →
+      Beside f old new (slot * length p.lengths * (w + 30)) (slot * length p.lengths * (w + 30) + length p.lengths * (w + 30)) →
       Holds k f z s p w old (sl * length p.lengths * (w + 30)) l → Holds k f z s p w new (sl * length p.lengths * (w + 30)) l
-  slot_kept old new slot sl l ne before after =
+  slot_kept old new slot sl l ne B =
       holds_kept old new (sl * length p.lengths * (w + 30)) l
       (λ x lo hi. elim (cases_lt sl slot) [
-        | inl u ↦ before x (omega (arith, slot_room sl slot (length p.lengths) (w + 30) u))
-        | inr v ↦ let u : slot < sl = omega arith in after x (omega (arith, slot_room slot sl (length p.lengths) (w + 30) u))
+        | inl u ↦ B.before k.greatest x (omega (arith, slot_room sl slot (length p.lengths) (w + 30) u))
+        | inr v ↦ let u : slot < sl = omega arith in B.after k.greatest x (omega (arith, slot_room slot sl (length p.lengths) (w + 30) u))
       ])
 
   -- a line of a sheet that is the same from row y on
@@ -61,10 +60,9 @@ module _ {K C : Type 0} (k : Lattice C) (f : K → C) (z : C) (s : Sheet K) (p :
 
   -- a line more, in the slot that is next
   pub ring_more : (old new : List K) (slot line n : ℕ) → slot < p.rows → n < p.rows →
-      ((x : ℕ) → x < slot * length p.lengths * (w + 30) → held k f new x ≡ held k f old x) →
-      ((x : ℕ) → slot * length p.lengths * (w + 30) + length p.lengths * (w + 30) ≤ x → held k f new x ≡ held k f old x) →
+      Beside f old new (slot * length p.lengths * (w + 30)) (slot * length p.lengths * (w + 30) + length p.lengths * (w + 30)) →
       Holds k f z s p w new (slot * length p.lengths * (w + 30)) line → Ring k f z s p w old slot line n → Ring k f z s p w new (next_slot p.rows slot) (line + 1) (n + 1)
-  ring_more old new slot line n hs hn before after H R l h m =
+  ring_more old new slot line n hs hn B H R l h m =
       elim (cases_lt l line) [
         | inl b ↦
             let rl = l + p.rows - line in
@@ -74,7 +72,7 @@ module _ {K C : Type 0} (k : Lattice C) (f : K → C) (z : C) (s : Sheet K) (p :
             let er : l + p.rows - (line + 1) ≡ rl - 1 = omega arith in
             let e : sl ≡ slot_of p.rows (next_slot p.rows slot) (l + p.rows - (line + 1)) = sym (ap (slot_of p.rows (next_slot p.rows slot)) er ∙ slot_turn p.rows slot rl hs r2 r1) in
             subst (λ (i : ℕ). Holds k f z s p w new (i * length p.lengths * (w + 30)) l) e
-            (slot_kept old new slot sl l (slot_apart p.rows slot rl hs r2 r1) before after (R l b (omega arith)))
+            (slot_kept old new slot sl l (slot_apart p.rows slot rl hs r2 r1) B (R l b (omega arith)))
         | inr b ↦
             let el : line ≡ l = omega arith in
             let er : l + p.rows - (line + 1) + 1 ≡ p.rows = omega (arith, p.sound.origin) in
@@ -84,14 +82,13 @@ module _ {K C : Type 0} (k : Lattice C) (f : K → C) (z : C) (s : Sheet K) (p :
 
   -- the slot of the oldest line is written over
   pub ring_less : (old new : List K) (slot line n : ℕ) → slot < p.rows → n < p.rows →
-      ((x : ℕ) → x < slot * length p.lengths * (w + 30) → held k f new x ≡ held k f old x) →
-      ((x : ℕ) → slot * length p.lengths * (w + 30) + length p.lengths * (w + 30) ≤ x → held k f new x ≡ held k f old x) →
+      Beside f old new (slot * length p.lengths * (w + 30)) (slot * length p.lengths * (w + 30) + length p.lengths * (w + 30)) →
       Ring k f z s p w old slot line (n + 1) → Ring k f z s p w new slot line n
-  ring_less old new slot line n hs hn before after R l h m =
+  ring_less old new slot line n hs hn B R l h m =
       let rl = l + p.rows - line in
       let r1 : 1 ≤ rl = omega arith in
       let r2 : rl < p.rows = omega arith in
-      slot_kept old new slot (slot_of p.rows slot rl) l (slot_apart p.rows slot rl hs r2 r1) before after (R l h (omega arith))
+      slot_kept old new slot (slot_of p.rows slot rl) l (slot_apart p.rows slot rl hs r2 r1) B (R l h (omega arith))
 
   -- the pick over the chords is the greatest lower bound of all that they show
   pub through_best : (table : List K) (slot line x y : ℕ) → x < w → line ≡ y + p.rows →

@@ -4,9 +4,10 @@
 --     place s above c l           column c of line l: row l - above of the sheet, with 15 columns before it
 --     UnderAt k f z a o           a lies under the cell that o has, or under z
 --     held k f table x            what entry x of the table means
+--     Beside f t t' a b           the entries before a and from b on are the same in t and t'
 --     Runs k f G p w t start n    the entries of the first n lengths are the greatest lower bounds of their runs
 --     Holds k f z s p w t start l the entries from start on are those of line l of the sheet s, places without a cell standing as z
-use Rattle.std.specs.Prelude.{ℕ, ◌+◌, ◌-◌, ◌*◌, ◌<◌, ◌≤◌, cond, ◌||◌, List, length, Some, None, Option, nat_lt}
+use Rattle.std.specs.Prelude.{◌≡◌, ℕ, ◌+◌, ◌-◌, ◌*◌, ◌<◌, ◌≤◌, cond, ◌||◌, List, length, Some, None, Option, nat_lt}
 use Rattle.cells.specs.Lattice.{Lattice, Under}
 use Rattle.sheets.specs.Sheet.{Sheet}
 use Rattle.plans.specs.declared.plan.Plan.{Plan}
@@ -33,6 +34,11 @@ UnderAt k f z a o = Under k a (or_else f z o)
 -- what the table holds at x; past its end it is taken as padded
 abbrev pub held : {K C : Type 0} → Lattice C → (K → C) → List K → ℕ → C
 held k f table x = cell_at f k.greatest table x
+
+-- what was written over t, which is t' now, lies from a on and before b
+pub record Beside {K C : Type 0} (f : K → C) (t t' : List K) (a b : ℕ) : Type 0 where
+  pub before : (z : C) (x : ℕ) → x < a → cell_at f z t' x ≡ cell_at f z t x
+  pub after : (z : C) (x : ℕ) → b ≤ x → cell_at f z t' x ≡ cell_at f z t x
 
 -- The entry for length i and column c is the greatest lower bound of its run, the places from c on, of which there are
 -- as many as length i says. G x a says that a lies under place x.

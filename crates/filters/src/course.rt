@@ -1,5 +1,5 @@
 // What a filter goes by.
-ghost use Rattle.std.specs.Prelude.{◌≡◌, ◌+◌, ◌*◌, ◌<◌, ◌≤◌, length};
+ghost use Rattle.std.specs.Prelude.{◌≡◌, ◌+◌, ◌*◌, ◌≤◌, length};
 
 use plans::plan::Plan;
 
@@ -20,11 +20,10 @@ impl<K> Course<K> {
         self.width + 30
     }
 
-    // Where the lines of a slot begin in the table.
-    pub(crate) fn start(&self, slot: usize) -> usize
-        requires { slot < self.now.plan.rows }
-        ensures { result ≡ slot * length self.now.plan.lengths * (self.now.width + 30) }
+    // How many cells the lines of a slot have: one for each length.
+    pub(crate) fn slot_cells(&self) -> usize
+        ensures { result ≡ length self.now.plan.lengths * (self.now.width + 30) }
     {
-        slot * self.plan.lengths.as_slice().len() * self.stride()
+        self.plan.lengths.as_slice().len() * self.stride()
     }
 }

@@ -71,7 +71,10 @@ pub(crate) fn admit(size: Size, plan: &Plan, cells: usize) -> Result<(), Refusal
     }
     let needed = plan.rows * plan.lengths.as_slice().len() * (size.width + 30);
     if cells < needed {
-        return Err(Refusal::ShortTable { needed, lent: cells });
+        return Err(Refusal::ShortTable {
+            needed,
+            lent: cells,
+        });
     }
     Ok(())
 }

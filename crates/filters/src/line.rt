@@ -4,34 +4,31 @@ ghost use Rattle.std.specs.Prelude.{◌≡◌, ℕ, ◌+◌, ◌-◌, ◌*◌, �
 ghost use Rattle.cells.specs.Lattice.{Under};
 ghost use Rattle.masks.specs.Cost.{line_picks};
 ghost use Rattle.filters.specs.Side.{side, cell_at};
-ghost use Rattle.filters.specs.Line.{or_else, padded, place, held, Runs, Holds};
+ghost use Rattle.filters.specs.Line.{or_else, padded, place, held, Runs, Holds, Beside};
 
 use crate::course::Course;
 use crate::side::Side;
 use cells::kind::Kind;
 use sheets::holder::Holder;
 
-// Takes line `line` into the table at `start`, with all its lengths, and answers the picks made. A place without a cell
-// stands as the padding.
+// Takes line `line` into the lines of a slot, with all its lengths, and answers the picks made. A place without a cell stands
+// as the padding.
 #[inline(always)]
 pub(crate) fn take_line<H: Holder, S: Side>(
     h: &H,
     course: &Course<H::Cell>,
     line: usize,
-    table: &mut [H::Cell],
-    start: usize,
+    lines: &mut [H::Cell],
 ) -> u64
 where
     H::Cell: Kind,
-    requires { start + length course.now.plan.lengths * (course.now.width + 30) ≤ length table.old }
+    requires { length lines.old ≡ length course.now.plan.lengths * (course.now.width + 30) }
     ensures few { result ≤ 31 * 2078 }
     ensures picks { result ≡ line_picks course.now.width course.now.plan.lengths }
-    ensures holds { Holds (side S.Side.lower H.Cell.Kind.lattice) H.Cell.Kind.means (H.Cell.Kind.means course.now.pad) (H.Holder.sheet h.now) course.now.plan course.now.width table.new start line }
-    ensures before { (x : ℕ) → x < start → held (side S.Side.lower H.Cell.Kind.lattice) H.Cell.Kind.means table.new x ≡ held (side S.Side.lower H.Cell.Kind.lattice) H.Cell.Kind.means table.old x }
-    ensures after { (x : ℕ) → start + length course.now.plan.lengths * (course.now.width + 30) ≤ x → held (side S.Side.lower H.Cell.Kind.lattice) H.Cell.Kind.means table.new x ≡ held (side S.Side.lower H.Cell.Kind.lattice) H.Cell.Kind.means table.old x }
+    ensures holds { Holds (side S.Side.lower H.Cell.Kind.lattice) H.Cell.Kind.means (H.Cell.Kind.means course.now.pad) (H.Holder.sheet h.now) course.now.plan course.now.width lines.new 0 line }
 {
-    load_line(h, course, line, &mut table[start..start + course.stride()]);
-    build::<H::Cell, S>(course, table, start)
+    load_line(h, course, line, &mut lines[..course.stride()]);
+    build::<H::Cell, S>(course, lines)
 }
 
 // The single cells of a line: the sheet's row, or none where the line lies above the sheet.
@@ -87,15 +84,13 @@ fn fill<K: Kind>(pad: K, cells: &mut [K])
     }
 }
 
-// The longer runs of the line at `start`, each length from the one before. The place of a length tells where its runs begin,
-// so that the loop goes by number.
-fn build<K: Kind, S: Side>(course: &Course<K>, table: &mut [K], start: usize) -> u64
-    requires { start + length course.now.plan.lengths * (course.now.width + 30) ≤ length table.old }
+// The longer runs of a line, each length from the one before. The place of a length tells where its runs begin, so that the
+// loop goes by number.
+fn build<K: Kind, S: Side>(course: &Course<K>, lines: &mut [K]) -> u64
+    requires { length lines.old ≡ length course.now.plan.lengths * (course.now.width + 30) }
     ensures few { result ≤ 31 * 2078 }
     ensures picks { result ≡ line_picks course.now.width course.now.plan.lengths }
-    ensures runs { Runs (side S.Side.lower K.Kind.lattice) K.Kind.means (λ x a. Under (side S.Side.lower K.Kind.lattice) a (held (side S.Side.lower K.Kind.lattice) K.Kind.means table.old (start + x))) course.now.plan course.now.width table.new start (length course.now.plan.lengths) }
-    ensures before { (x : ℕ) → x < start → held (side S.Side.lower K.Kind.lattice) K.Kind.means table.new x ≡ held (side S.Side.lower K.Kind.lattice) K.Kind.means table.old x }
-    ensures after { (x : ℕ) → start + length course.now.plan.lengths * (course.now.width + 30) ≤ x → held (side S.Side.lower K.Kind.lattice) K.Kind.means table.new x ≡ held (side S.Side.lower K.Kind.lattice) K.Kind.means table.old x }
+    ensures runs { Runs (side S.Side.lower K.Kind.lattice) K.Kind.means (λ x a. Under (side S.Side.lower K.Kind.lattice) a (held (side S.Side.lower K.Kind.lattice) K.Kind.means lines.old x)) course.now.plan course.now.width lines.new 0 (length course.now.plan.lengths) }
 {
     let stride = course.stride();
     let lengths = course.plan.lengths.as_slice();
@@ -104,9 +99,9 @@ fn build<K: Kind, S: Side>(course: &Course<K>, table: &mut [K], start: usize) ->
         let longer = lengths[i];
         let shorter = lengths[i - 1];
         picks += lengthen::<K, S>(
-            table,
-            start + (i - 1) * stride,
-            start + i * stride,
+            lines,
+            (i - 1) * stride,
+            i * stride,
             stride + 1 - longer,
             longer - shorter,
         );
@@ -115,17 +110,16 @@ fn build<K: Kind, S: Side>(course: &Course<K>, table: &mut [K], start: usize) ->
 }
 
 // Makes `n` runs at `to`, each the pick of two overlapping runs that start `d` apart, and answers the picks made. It goes by
-// number: nothing would be known of a part of the table that was written in step with another.
-fn lengthen<K: Kind, S: Side>(table: &mut [K], from: usize, to: usize, n: usize, d: usize) -> u64
-    requires { (from + n + d ≤ to) × (to + n ≤ length table.old) }
+// number: nothing would be known of a part of the lines that was written in step with another.
+fn lengthen<K: Kind, S: Side>(lines: &mut [K], from: usize, to: usize, n: usize, d: usize) -> u64
+    requires { (from + n + d ≤ to) × (to + n ≤ length lines.old) }
     ensures picks { result ≡ n }
-    ensures built { (z : K.Kind.Cell) (x : ℕ) → x < n → cell_at K.Kind.means z table.new (to + x) ≡ (side S.Side.lower K.Kind.lattice).meet (cell_at K.Kind.means z table.old (from + x)) (cell_at K.Kind.means z table.old (from + x + d)) }
-    ensures before { (z : K.Kind.Cell) (x : ℕ) → x < to → cell_at K.Kind.means z table.new x ≡ cell_at K.Kind.means z table.old x }
-    ensures after { (z : K.Kind.Cell) (x : ℕ) → to + n ≤ x → cell_at K.Kind.means z table.new x ≡ cell_at K.Kind.means z table.old x }
+    ensures built { (z : K.Kind.Cell) (x : ℕ) → x < n → cell_at K.Kind.means z lines.new (to + x) ≡ (side S.Side.lower K.Kind.lattice).meet (cell_at K.Kind.means z lines.old (from + x)) (cell_at K.Kind.means z lines.old (from + x + d)) }
+    ensures beside { Beside K.Kind.means lines.old lines.new to (to + n) }
 {
     let mut picks = 0;
     for x in 0..n {
-        table[to + x] = S::pick(table[from + x], table[from + x + d]);
+        lines[to + x] = S::pick(lines[from + x], lines[from + x + d]);
         picks += 1;
     }
     picks

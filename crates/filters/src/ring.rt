@@ -3,12 +3,11 @@ ghost use Rattle.std.specs.Prelude.{◌≡◌, ℕ, ◌+◌, ◌-◌, ◌*◌, �
 ghost use Rattle.masks.specs.Cost.{line_picks};
 ghost use Rattle.sheets.specs.Sheet.{Sheet};
 ghost use Rattle.filters.specs.Side.{side};
-ghost use Rattle.filters.specs.Line.{held, Holds};
+ghost use Rattle.filters.specs.Line.{Holds, Beside};
 ghost use Rattle.filters.specs.Sweep.{SameFrom, next_slot, Stands, Laid};
 
 use crate::course::Course;
 use crate::line::take_line;
-use crate::row::gather;
 use crate::side::Side;
 use cells::kind::Kind;
 use plans::plan::Plan;
@@ -76,7 +75,7 @@ impl<K: Kind> Ring<K> {
     {
         let line = y + self.course.plan.rows - 1;
         let taken = self.take::<H, S>(h, line, table);
-        let picked = gather::<K, S>(&self.course, table, self.slot);
+        let picked = self.gather::<S>(table);
         taken + picked
     }
 
@@ -90,13 +89,31 @@ impl<K: Kind> Ring<K> {
         ensures course { self.new.course ≡ self.old.course }
         ensures slot { self.new.slot ≡ next_slot self.old.course.plan.rows self.old.slot }
         ensures holds { Holds (side S.Side.lower K.Kind.lattice) K.Kind.means (K.Kind.means self.old.course.pad) (H.Holder.sheet h.now) self.old.course.plan self.old.course.width table.new (self.old.slot * length self.old.course.plan.lengths * (self.old.course.width + 30)) line }
-        ensures before { (x : ℕ) → x < self.old.slot * length self.old.course.plan.lengths * (self.old.course.width + 30) → held (side S.Side.lower K.Kind.lattice) K.Kind.means table.new x ≡ held (side S.Side.lower K.Kind.lattice) K.Kind.means table.old x }
-        ensures after { (x : ℕ) → self.old.slot * length self.old.course.plan.lengths * (self.old.course.width + 30) + length self.old.course.plan.lengths * (self.old.course.width + 30) ≤ x → held (side S.Side.lower K.Kind.lattice) K.Kind.means table.new x ≡ held (side S.Side.lower K.Kind.lattice) K.Kind.means table.old x }
+        ensures beside { Beside K.Kind.means table.old table.new (self.old.slot * length self.old.course.plan.lengths * (self.old.course.width + 30)) (self.old.slot * length self.old.course.plan.lengths * (self.old.course.width + 30) + length self.old.course.plan.lengths * (self.old.course.width + 30)) }
     {
-        let start = self.course.start(self.slot);
-        let picks = take_line::<H, S>(h, &self.course, line, table, start);
-        self.slot = next(self.slot, self.course.plan.rows);
+        let start = self.start();
+        let end = start + self.course.slot_cells();
+        let picks = take_line::<H, S>(h, &self.course, line, &mut table[start..end]);
+        self.slot = self.next();
         picks
+    }
+
+    // The slot after the one that is due.
+    fn next(&self) -> usize
+        ensures { result ≡ next_slot self.now.course.plan.rows self.now.slot }
+    {
+        if self.slot + 1 < self.course.plan.rows {
+            self.slot + 1
+        } else {
+            0
+        }
+    }
+
+    // Where the lines of the slot that is due begin in the table.
+    pub(crate) fn start(&self) -> usize
+        ensures { result ≡ self.now.slot * length self.now.course.plan.lengths * (self.now.course.width + 30) }
+    {
+        self.slot * self.course.plan.lengths.as_slice().len() * self.course.stride()
     }
 
     // The row that was gathered last.
@@ -104,15 +121,7 @@ impl<K: Kind> Ring<K> {
         requires { self.now.course.plan.rows * length self.now.course.plan.lengths * (self.now.course.width + 30) ≤ length table.now }
         ensures { result.now ≡ slice_range table.now (self.now.slot * length self.now.course.plan.lengths * (self.now.course.width + 30)) (self.now.slot * length self.now.course.plan.lengths * (self.now.course.width + 30) + self.now.course.width) }
     {
-        let start = self.course.start(self.slot);
+        let start = self.start();
         &table[start..start + self.course.width]
     }
-}
-
-// The slot after a slot of the ring.
-fn next(slot: usize, rows: usize) -> usize
-    requires { slot < rows }
-    ensures { result ≡ next_slot rows slot }
-{
-    if slot + 1 < rows { slot + 1 } else { 0 }
 }

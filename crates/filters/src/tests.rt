@@ -20,7 +20,8 @@ use std::fmt::Debug;
 use std::process::Abort;
 use std::test::Fail;
 
-// A row of three cells, and what the filters make of it under the pair.
+// A row of three cells, and what the filters make of it under the pair. The tests of worksheets have examples of their own:
+// what asserts may stand in tests alone, and no crate can call another's tests.
 #[derive(Clone, Copy)]
 struct Example<C> {
     row: [C; 3],
@@ -56,32 +57,33 @@ where
     }
 }
 
-// Filters a row of three cells under the pair.
-fn filters<H: Holder, F: Fn(&mut H, &Mask, &mut [H::Cell]) -> Result<u64, Refusal>>(
+// Puts a row of three cells on the sheet.
+fn load<H: Holder>(rt: &impl Abort, holder: &mut H, row: [H::Cell; 3])
+where
+    H::Cell: Kind,
+{
+    for (x, cell) in row.iter().enumerate() {
+        assert!(rt; holder.put(x, 0, *cell));
+    }
+}
+
+// Erodes and dilates the example, loaded anew, in a holder of 3 by 1.
+fn filters<H: Holder>(
     rt: &impl Abort,
-    filter: F,
     holder: &mut H,
     table: &mut [H::Cell],
-    wanted: [H::Cell; 3],
+    example: Example<H::Cell>,
 ) -> Result<(), Fail>
 where
     H::Cell: Kind + PartialEq + Debug,
-    requires { F.IsAlwaysCallable filter }
 {
-    assert_eq!(rt; filter(holder, &pair()?, table), Ok(32));
-    shows(rt, holder, wanted);
+    load(rt, holder, example.row);
+    assert_eq!(rt; erode(holder, &pair()?, table), Ok(32));
+    shows(rt, holder, example.eroded);
+    load(rt, holder, example.row);
+    assert_eq!(rt; dilate(holder, &pair()?, table), Ok(32));
+    shows(rt, holder, example.dilated);
     Ok(())
-}
-
-// Lays the row into the cells from place `at` on; all the others are `rest`.
-fn lay<K: Kind>(rt: &impl Abort, cells: &mut [K], at: usize, row: [K; 3], rest: K) {
-    assert!(rt; cells.len() == 64 && at <= 61);
-    for cell in cells.iter_mut() {
-        *cell = rest;
-    }
-    for (x, cell) in row.iter().enumerate() {
-        cells[at + x] = *cell;
-    }
 }
 
 // The example in rows, in a square of 8 by 8 cells, and at the end of the southern of two rows, where the cell beside it
@@ -92,62 +94,13 @@ fn in_each_holder<K: Kind + PartialEq + Debug>(
     table: &mut [K],
     example: Example<K>,
 ) -> Result<(), Fail> {
-    let row = example.row;
-    let eroded = example.eroded;
-    let dilated = example.dilated;
-    let first = example.row[0];
-    let second = example.row[1];
     assert!(rt; cells.len() == 64);
-    lay(rt, cells, 0, row, first);
-    filters(
-        rt,
-        |h, m, t| erode(h, m, t),
-        &mut Rows::new(3, &mut cells[0..3]),
-        table,
-        eroded,
-    )?;
-    lay(rt, cells, 0, row, first);
-    filters(
-        rt,
-        |h, m, t| dilate(h, m, t),
-        &mut Rows::new(3, &mut cells[0..3]),
-        table,
-        dilated,
-    )?;
-    lay(rt, cells, 0, row, first);
-    filters(
-        rt,
-        |h, m, t| erode(h, m, t),
-        &mut Tiles::new(3, 1, &mut cells[0..64]),
-        table,
-        eroded,
-    )?;
-    lay(rt, cells, 0, row, first);
-    filters(
-        rt,
-        |h, m, t| dilate(h, m, t),
-        &mut Tiles::new(3, 1, &mut cells[0..64]),
-        table,
-        dilated,
-    )?;
-    lay(rt, cells, 5, row, second);
-    filters(
-        rt,
-        |h, m, t| erode(h, m, t),
-        &mut in_the_south(&mut cells[0..8]),
-        table,
-        eroded,
-    )?;
-    assert_eq!(rt; cells[4], second);
-    lay(rt, cells, 5, row, second);
-    filters(
-        rt,
-        |h, m, t| dilate(h, m, t),
-        &mut in_the_south(&mut cells[0..8]),
-        table,
-        dilated,
-    )?;
-    assert_eq!(rt; cells[4], second);
+    filters(rt, &mut Rows::new(3, &mut cells[0..3]), table, example)?;
+    filters(rt, &mut Tiles::new(3, 1, &mut cells[0..64]), table, example)?;
+    let beside = example.row[1];
+    cells[4] = beside;
+    filters(rt, &mut in_the_south(&mut cells[0..8]), table, example)?;
+    assert_eq!(rt; cells[4], beside);
     Ok(())
 }
 
@@ -226,7 +179,10 @@ fn the_letter_wants_306_cells(rt: HostRuntime) -> Result<(), Fail> {
     let mut short = [Gray(0); 305];
     assert_eq!(rt;
         letter_answer(&mut short)?,
-        Err(Refusal::ShortTable { needed: 306, lent: 305 })
+        Err(Refusal::ShortTable {
+            needed: 306,
+            lent: 305
+        })
     );
     Ok(())
 }
@@ -330,12 +286,18 @@ fn search_with(
 
 #[test]
 fn find_asks_for_the_fore_table_first(rt: HostRuntime) -> Result<(), Fail> {
-    let short = Refusal::ShortTable { needed: 66, lent: 65 };
+    let short = Refusal::ShortTable {
+        needed: 66,
+        lent: 65,
+    };
     assert_eq!(rt;
         search_with(&mut [Gray(0); 65], &mut [Gray(0); 1])?,
         Err(short)
     );
-    let short = Refusal::ShortTable { needed: 297, lent: 296 };
+    let short = Refusal::ShortTable {
+        needed: 297,
+        lent: 296,
+    };
     assert_eq!(rt;
         search_with(&mut [Gray(0); 66], &mut [Gray(0); 296])?,
         Err(short)

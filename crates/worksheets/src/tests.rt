@@ -20,7 +20,8 @@ use std::fmt::Debug;
 use std::process::Abort;
 use std::test::Fail;
 
-// A row of three cells, and what the filters make of it under the pair.
+// A row of three cells, and what the filters make of it under the pair. The tests of filters have examples of their own: what
+// asserts may stand in tests alone, and no crate can call another's tests.
 #[derive(Clone, Copy)]
 struct Example<C> {
     loaded: [C; 3],

@@ -1,5 +1,5 @@
 -- The runs of the lengths before i are made, from the single cells that the line had at the start.
-use Rattle.std.proofs.Common.{◌≡◌, ℕ, ◌+◌, ◌*◌, ◌<◌, ◌≤◌, take}
+use Rattle.std.proofs.Common.{◌≡◌, ◌*◌, ◌≤◌, take}
 use Rattle.cells.specs.Lattice.{Under}
 use Rattle.masks.specs.Cost.{line_picks}
 use Rattle.filters.specs.Side.{side}
@@ -10,6 +10,4 @@ abbrev pub invariant-loop-i : goal.invariant-loop-i
 invariant-loop-i g l =
     (l.picks ≤ l.i * 2078) ×
     (l.picks ≡ line_picks l.course.width (take l.i l.course.plan.lengths)) ×
-    Runs (side g.S.Side.lower g.K.Kind.lattice) g.K.Kind.means (λ x a. Under (side g.S.Side.lower g.K.Kind.lattice) a (held (side g.S.Side.lower g.K.Kind.lattice) g.K.Kind.means l.initial.table (l.start + x))) l.course.plan l.course.width l.table l.start l.i ×
-    ((x : ℕ) → x < l.start → held (side g.S.Side.lower g.K.Kind.lattice) g.K.Kind.means l.table x ≡ held (side g.S.Side.lower g.K.Kind.lattice) g.K.Kind.means l.initial.table x) ×
-    ((x : ℕ) → l.start + l.i * (l.course.width + 30) ≤ x → held (side g.S.Side.lower g.K.Kind.lattice) g.K.Kind.means l.table x ≡ held (side g.S.Side.lower g.K.Kind.lattice) g.K.Kind.means l.initial.table x)
+    Runs (side g.S.Side.lower g.K.Kind.lattice) g.K.Kind.means (λ x a. Under (side g.S.Side.lower g.K.Kind.lattice) a (held (side g.S.Side.lower g.K.Kind.lattice) g.K.Kind.means l.initial.lines x)) l.course.plan l.course.width l.lines 0 l.i

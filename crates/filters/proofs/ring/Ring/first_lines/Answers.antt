@@ -2,7 +2,7 @@
 use Rattle.std.proofs.Common.{◌≡◌, ℕ, ◌+◌, ◌*◌, ◌<◌, length, sym, refl, ap, ◌∙◌, subst, arith}
 use Rattle.masks.specs.Cost.{line_picks}
 use Rattle.filters.specs.Side.{side}
-use Rattle.filters.specs.Line.{Holds}
+use Rattle.filters.specs.Line.{Holds, Beside}
 use Rattle.filters.specs.Sweep.{next_slot, Stands}
 use Rattle.filters.specs.declared.course.Course.{Course}
 use Rattle.filters.proofs.Rooms.{times_more}
@@ -32,7 +32,7 @@ loop-line-preserved g c =
     let next = slot_filling p.rows line filling in
     let R : Stands k f course s new (next_slot p.rows line) (line + 1) (line + 1) =
     ring_more k f (f course.pad) s p course.width old new line line line in_ring in_ring
-    (λ x h. taken.before x (omega (arith, start))) (λ x h. taken.after x (omega (arith, start)))
+    (subst (λ (n : ℕ). Beside f old new n (n + length p.lengths * (course.width + 30))) start taken.beside)
     (subst (λ (n : ℕ). Holds k f (f course.pad) s p course.width new n line) start taken.holds) c.loop-line.invariant.4 in (
       omega (arith, taken.few),
       omega (arith, more, taken.picks ∙ ap (λ (x : Course g.row.K.Denot). line_picks x.width x.plan.lengths) same, c.loop-line.invariant.1),

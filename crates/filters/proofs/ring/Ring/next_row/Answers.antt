@@ -4,7 +4,7 @@ use Rattle.cells.specs.Lattice.{Lattice}
 use Rattle.sheets.specs.Sheet.{Sheet}
 use Rattle.filters.specs.declared.course.Course.{Course}
 use Rattle.filters.specs.Side.{side}
-use Rattle.filters.specs.Line.{held}
+use Rattle.filters.specs.Line.{held, Beside}
 use Rattle.filters.specs.Row.{run_of, picked}
 use Rattle.filters.specs.Sweep.{next_slot, Ring, Stands, Laid}
 use Rattle.filters.proofs.Bests.{best_at}
@@ -20,17 +20,16 @@ Finished k f s new slot y c = Laid k f c s new (slot * length c.plan.lengths * (
 finish : {K C : Type 0} (k : Lattice C) (f : K → C) (c : Course K) (s : Sheet K) (mid new : List K) (slot y : ℕ) → slot < c.plan.rows →
     Ring k f (f c.pad) s c.plan c.width mid slot (y + c.plan.rows) (c.plan.rows - 1 + 1) →
     ((x : ℕ) → x < c.width → held k f new (slot * length c.plan.lengths * (c.width + 30) + x) ≡ picked k (run_of f k.greatest mid c.plan (c.width + 30) slot x) (length c.plan.chords.items - 1)) →
-    ((x : ℕ) → x < slot * length c.plan.lengths * (c.width + 30) → held k f new x ≡ held k f mid x) →
-    ((x : ℕ) → slot * length c.plan.lengths * (c.width + 30) + c.width ≤ x → held k f new x ≡ held k f mid x) →
+    Beside f mid new (slot * length c.plan.lengths * (c.width + 30)) (slot * length c.plan.lengths * (c.width + 30) + c.width) →
     Finished k f s new slot y c
-finish k f c s mid new slot y in_ring R cells before after =
+finish k f c s mid new slot y in_ring R cells B =
     let p = c.plan in
     let z = f c.pad in
     let less : p.rows - 1 < p.rows = omega (arith, p.sound.origin) in
     let every : p.rows - 1 + 1 ≡ p.rows = omega (arith, p.sound.origin) in
     let room = part_room 0 (length p.lengths) (c.width + 30) p.sound.some_length in (
       λ x h. best_at k _ _ _ (cells x h) (through_best k f z s p c.width mid slot (y + p.rows) x y h refl (subst (Ring k f z s p c.width mid slot (y + p.rows)) every R)),
-      ring_less k f z s p c.width mid new slot (y + p.rows) (p.rows - 1) in_ring less before (λ x h. after x (omega (arith, room))) R,
+      ring_less k f z s p c.width mid new slot (y + p.rows) (p.rows - 1) in_ring less (record { before = B.before; after = λ v x h. B.after v x (omega (arith, room)) }) R,
     )
 
 pub returns-clause-row : goal.returns-clause-row
@@ -60,8 +59,8 @@ returns-clause-row g c =
     let full : Ring k f z s p w mid next (y + p.rows) (p.rows - 1 + 1) =
     subst (λ (n : ℕ). Ring k f z s p w mid n (y + p.rows) (p.rows - 1 + 1)) (sym e)
     (subst (λ (l : ℕ). Ring k f z s p w mid (next_slot p.rows slot) l (p.rows - 1 + 1)) all
-    (ring_more k f z s p w old mid slot line (p.rows - 1) in_ring less taken.before taken.after
+    (ring_more k f z s p w old mid slot line (p.rows - 1) in_ring less taken.beside
     (holds_sheet k f z s p w (g.H.Holder.sheet c.args.h.now) mid (slot * length p.lengths * (w + 30)) line y same low taken.holds) R)) in
     subst (Finished k f s new next y) taken.course (finish k f c.take-taken.new.self.course s mid new next y c.take-taken.new.self.due
     (subst (λ (x : Course g.row.K.Denot). Ring k f (f x.pad) s x.plan x.width mid next (y + x.plan.rows) (x.plan.rows - 1 + 1)) (sym taken.course) full)
-    (picked.cells k.greatest) (picked.before k.greatest) (picked.after k.greatest))
+    (picked.cells k.greatest) picked.beside)
