@@ -1,6 +1,9 @@
 -- The hits of a row, column by column, and those of the rows, row by row.
-use Rattle.std.proofs.Common.{◌≡◌, ℕ, ◌+◌, ◌<◌, ◌↔◌, List, [], ◌∷◌, ◌++◌, sym, ap, ◌∙◌, subst, inl, inr, arith}
+use Rattle.std.proofs.Common.{◌≡◌, ℕ, ◌+◌, ◌<◌, ◌↔◌, List, [], ◌∷◌, ◌++◌, length, get_or, sym, ap, ◌∙◌, subst, inl, inr, arith}
+use Rattle.std.specs.List.{enumerate_from, zip}
 use Rattle.std.proofs.lemmas.Bool.{cases_lt}
+use Rattle.std.proofs.lemmas.List.FromFn.{length-enumerate_from, get_or-enumerate_from}
+use Rattle.std.proofs.lemmas.Slice.Zip.{length-zip, get_or-zip}
 use Rattle.cells.specs.Lattice.{Lattice, Above}
 use Rattle.masks.specs.Points.{Among}
 use Rattle.masks.specs.declared.point.Point.{Point}
@@ -11,6 +14,7 @@ use Rattle.morphology.specs.Find.{Before, Hit, HitList}
 use Rattle.morphology.specs.declared.place.Place.{Place}
 use Rattle.filters.specs.Side.{cell_at}
 use Rattle.filters.specs.Find.{RowHits, HitsAbove}
+use Rattle.filters.proofs.Entries.{at_read}
 
 -- a place is its column and its row
 same_place : (p q : Place) → p.x ≡ q.x → p.y ≡ q.y → p ≡ q
@@ -93,3 +97,16 @@ hits_all k fore back s y ps on P =
       hits = λ p. (λ i. ((P.just p).0 i).1, λ h. (P.just p).1 (on p h, h));
       order = P.order;
     }
+
+-- what stands at place i of two lists of one length that are gone through together
+pub pair_at : {K C : Type 0} (f : K → C) (z v : C) (xs ys : List K) (i x : ℕ) (a b : K) → length xs ≡ length ys → i < length (enumerate_from 0 (zip xs ys)) →
+    ◌≡◌ {A = ℕ × (K × K)} (x, (a, b)) (get_or (enumerate_from 0 (zip xs ys)) i (x, (a, b))) → (x ≡ i) × (cell_at f z xs i ≡ f a) × (cell_at f v ys i ≡ f b)
+pair_at {K} f z v xs ys i x a b e h p =
+    let n = length-enumerate_from 0 (zip xs ys) in
+    let m = length-zip xs ys in
+    let both : i < length (zip xs ys) = omega arith in
+    let left : i < length xs = omega arith in
+    let right : i < length ys = omega arith in
+    let q = p ∙ get_or-enumerate_from 0 (zip xs ys) i (x, (a, b)) both ∙ ap (λ (t : K × K). (0 + i, t)) (get_or-zip xs ys i (a, b) left right) in
+    let first : x ≡ 0 + i = ap (λ (t : ℕ × (K × K)). t.0) q in
+    (omega arith, at_read f z xs i a left (ap (λ (t : ℕ × (K × K)). t.1.0) q), at_read f v ys i b right (ap (λ (t : ℕ × (K × K)). t.1.1) q))

@@ -1,5 +1,5 @@
 // Erosion and dilation of a holder's sheet, in place.
-ghost use Rattle.std.specs.Prelude.{◌≡◌, ◌+◌, ◌*◌, ◌≤◌, ◌&&◌, List, length, Some, Ok, Err, IfOk, MatchResult};
+ghost use Rattle.std.specs.Prelude.{◌≡◌, ◌+◌, ◌*◌, ◌≤◌, List, length, Some, Ok, Err, IfOk, MatchResult};
 ghost use Rattle.masks.specs.declared.mask.Mask.{Mask};
 ghost use Rattle.masks.specs.declared.point.Point.{Point};
 ghost use Rattle.sheets.specs.Sheet.{shown};

@@ -1,5 +1,5 @@
 // Find: the places where all that the fore mask sees stands above all that the back mask sees.
-ghost use Rattle.std.specs.Prelude.{◌≡◌, ℕ, ◌+◌, ◌-◌, ◌*◌, ◌<◌, ◌≤◌, List, length, slice_set, Decides};
+ghost use Rattle.std.specs.Prelude.{◌≡◌, ◌+◌, ◌-◌, ◌*◌, ◌<◌, ◌≤◌, List, length, slice_set, Decides};
 ghost use Rattle.cells.specs.Lattice.{Above};
 ghost use Rattle.masks.specs.Cost.{line_picks};
 ghost use Rattle.masks.specs.declared.point.Point.{Point};
@@ -98,8 +98,8 @@ fn list_row<K: Ranked>(
     ensures hits { (qs : List Place) × RowHits K.Kind.lattice K.Kind.means y fores.now backs.now (length fores.now) qs × (result ≡ before + length qs) × (places.new ≡ note before qs places.old) }
 {
     let mut hits = before;
-    for (x, fore) in fores.iter().enumerate() {
-        if is_hit(*fore, backs[x]) {
+    for (x, (fore, back)) in fores.iter().zip(backs).enumerate() {
+        if is_hit(*fore, *back) {
             write(places, hits, Place { x, y });
             hits += 1;
         }

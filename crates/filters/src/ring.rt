@@ -1,5 +1,5 @@
 // The ring of table lines, and the rows that are gathered from it.
-ghost use Rattle.std.specs.Prelude.{◌≡◌, ℕ, ◌+◌, ◌-◌, ◌*◌, ◌<◌, ◌≤◌, length, slice_range};
+ghost use Rattle.std.specs.Prelude.{◌≡◌, ◌+◌, ◌-◌, ◌*◌, ◌<◌, ◌≤◌, length, slice_range};
 ghost use Rattle.masks.specs.Cost.{line_picks};
 ghost use Rattle.sheets.specs.Sheet.{Sheet};
 ghost use Rattle.filters.specs.Side.{side};

@@ -1,7 +1,9 @@
 -- Points of the grid: which are held, and the list of them.
-use Rattle.std.proofs.Common.{◌≡◌, ℕ, zero, suc, ◌+◌, ◌<◌, Bool, true, false, ◌&&◌, ◌||◌, eqb, ltb, ◌⊎◌, ◌↔◌, List, [], ◌∷◌, ◌++◌, map, length, get_or, set, replicate, ℤ, pos, negsuc, ◌+ℤ◌, filter, sym, refl, ap, ◌∙◌, subst, ap₂, subst₂, inl, inr, add-one, arith, get_or-set_other, get_or-set_same}
+use Rattle.std.proofs.Common.{◌≡◌, ℕ, zero, suc, ◌<◌, ◌≤◌, Bool, true, false, ◌&&◌, ◌||◌, eqb, ltb, ◌⊎◌, ◌↔◌, List, [], ◌∷◌, ◌++◌, map, length, get_or, set, replicate, ℤ, pos, negsuc, ◌+ℤ◌, filter, sum_by, sym, refl, ap, ◌∙◌, subst, ap₂, subst₂, inl, inr, arith, get_or-set_other, get_or-set_same}
 use Rattle.std.specs.List.{range_with_len, flat_map}
-use Rattle.std.proofs.lemmas.List.{length-append, length-map}
+use Rattle.std.proofs.lemmas.List.Concat.{length-flat_map}
+use Rattle.std.proofs.lemmas.List.Sums.{length-filter, count_by-le-length, sum_by-le-sum_by}
+use Rattle.std.proofs.lemmas.List.{length-map}
 use Rattle.std.proofs.lemmas.Int.{ints}
 use Rattle.std.proofs.lemmas.Bool.{cases_eq, and_parts, and_from, and_right, or_cases, or_left, or_right, both_ways, ltb-true, eqb-true, eq-eqb}
 use Rattle.std.proofs.lemmas.Bool.Decides.{nat_tests}
@@ -10,7 +12,7 @@ use Rattle.bits.proofs.SingleBits.{bit_zero, bit_with_bit}
 use Rattle.masks.specs.Points.{Among, point_at, Earlier, InOrder}
 use Rattle.masks.specs.Rows.{marked, marked_at, holds, columns, points, Drawn}
 use Rattle.masks.specs.declared.point.Point.{Point}
-use Rattle.masks.proofs.Lists.{among_left, among_last, among_push, among_some, among_kept, kept_among, among_map, map_among, among_joined, joined_among, among_counting, joined_counting_push}
+use Rattle.masks.proofs.Lists.{among_left, among_last, among_push, among_some, among_kept, kept_among, among_map, map_among, among_joined, joined_among, among_counting}
 use Rattle.masks.proofs.Orders.{order_map, order_kept, order_weaker, order_counting, order_joined}
 
 -- two points are the same where their offsets are
@@ -168,16 +170,19 @@ pub points_order : (rows : List ℕ) → InOrder Earlier (points rows 31)
 unfolding points columns
 points_order rows = grid_order (λ p. p) (λ r c. point_at c r) (λ r c. refl) (λ r c. marked rows c r) 31 31
 
--- one row more
-pub length_points_more : (rows : List ℕ) (r : ℕ) → length (points rows (r + 1)) ≡ length (points rows r) + length (columns rows r 31)
+-- the points are counted row by row, at most 31 in each
+pub length_points : (rows : List ℕ) → length (points rows 31) ≡ sum_by (λ r. length (columns rows r 31)) (range_with_len 0 31)
 unfolding points
-length_points_more rows r =
-    let f : ℕ → List Point = λ y. map (λ x. point_at x y) (columns rows y 31) in
-    ap (λ (n : ℕ). length (flat_map f (range_with_len 0 n))) (add-one r)
-    ∙ ap length (joined_counting_push f r)
-    ∙ length-append (flat_map f (range_with_len 0 r)) (f r)
-    ∙ ap (λ (n : ℕ). length (flat_map f (range_with_len 0 r)) + n) (length-map (columns rows r 31) (λ x. point_at x r))
+length_points rows =
+    length-flat_map (λ r. map (λ c. point_at c r) (columns rows r 31)) (range_with_len 0 31)
+    ∙ ap (λ (f : ℕ → ℕ). sum_by f (range_with_len 0 31)) (λ i r. length-map (columns rows r 31) (λ c. point_at c r) i)
 
-pub length_points_none : (rows : List ℕ) → length (points rows 0) ≡ 0
-unfolding points
-length_points_none rows = refl
+columns_few : (rows : List ℕ) (r : ℕ) → length (columns rows r 31) ≤ 31
+unfolding columns
+columns_few rows r =
+    let e = length-filter (λ c. marked rows c r) (range_with_len 0 31) in
+    let l = count_by-le-length (λ c. marked rows c r) (range_with_len 0 31) in
+    omega arith
+
+pub points_few : (rows : List ℕ) → sum_by (λ r. length (columns rows r 31)) (range_with_len 0 31) ≤ 961
+points_few rows = sum_by-le-sum_by (λ r. length (columns rows r 31)) (λ _. 31) (range_with_len 0 31) (columns_few rows)

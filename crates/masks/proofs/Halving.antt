@@ -1,7 +1,6 @@
 -- The rule of the length list, from 31 down.
-use Rattle.std.proofs.Common.{◌≡◌, ℕ, zero, suc, ◌+◌, ◌-◌, ◌/◌, ◌<◌, ◌≤◌, Bool, true, false, cond, not, ◌&&◌, ◌||◌, leb, ◌≢◌, List, [], ◌∷◌, ◌++◌, reverse, length, get_or, take, drop, set, replicate, fold, filter, sym, refl, ap, ◌∙◌, subst, inl, inr, add-one, arith}
-use Rattle.std.specs.List.{range_with_len, AllByRecursion}
-use Rattle.std.proofs.Math.Bool.{or-true}
+use Rattle.std.proofs.Common.{◌≡◌, ℕ, zero, suc, ◌+◌, ◌-◌, ◌/◌, ◌<◌, ◌≤◌, Bool, true, false, cond, not, ◌&&◌, leb, ◌≢◌, List, [], ◌∷◌, ◌++◌, reverse, length, get_or, take, drop, set, replicate, fold, filter, sym, refl, ap, ◌∙◌, subst, inl, inr, add-one, arith}
+use Rattle.std.specs.List.{range_with_len, list_any, AllByRecursion}
 use Rattle.std.proofs.lemmas.Grind.{get_or_after_one}
 use Rattle.std.proofs.lemmas.List.{length-set, length-take, get_or-take, get_or-set_same, get_or-set_other, reverse-append}
 use Rattle.std.proofs.ByRecursion.{All-weaker}
@@ -30,14 +29,6 @@ pub halved_down_all : (s : List Bool) → halved_down s 2 ≡ halved s
 unfolding halved
 halved_down_all s = refl
 
--- a number below n that reaches a is enough
-pub reached_by : (s : List Bool) (a b n : ℕ) → b < n → (listed s b && leb a (b + b)) ≡ true → reached s a n ≡ true
-reached_by s a b zero h e = absurd (omega arith)
-reached_by s a b (suc n) h e = elim (cases_eq b n) [
-  | inl q ↦ ap (λ (t : Bool). reached s a n || t) (subst (λ (k : ℕ). (listed s k && leb a (k + k)) ≡ true) q e) ∙ or-true (reached s a n)
-  | inr q ↦ ap (λ (t : Bool). t || (listed s n && leb a (n + n))) (reached_by s a b n (omega arith) e)
-]
-
 -- b is listed, lies below a and reaches a when doubled
 abbrev Near : List Bool → ℕ → ℕ → Type 0
 Near s a b = (b < a) × (a ≤ b + b) × (listed s b ≡ true)
@@ -46,14 +37,21 @@ Near s a b = (b < a) × (a ≤ b + b) × (listed s b ≡ true)
 abbrev Closed : List Bool → ℕ → Type 0
 Closed s low = (a : ℕ) → low ≤ a → a < 32 → listed s a ≡ true → (b : ℕ) × Near s a b
 
--- what a true answer says
-reached_near : (s : List Bool) (a n : ℕ) → n ≤ a → reached s a n ≡ true → (b : ℕ) × Near s a b
-reached_near s a zero h e = absurd (both_ways false refl e)
-reached_near s a (suc n) h e =
-    elim (or_cases (reached s a n) (listed s n && leb a (n + n)) e) [
-      | inl y ↦ reached_near s a n (omega arith) y
-      | inr y ↦ let p = and_parts (listed s n) (leb a (n + n)) y in (n, (omega arith, leb-true a (n + n) p.1, p.0))
+-- one of n numbers that follow each other passes
+any_counting : (p : ℕ → Bool) (n a : ℕ) → list_any p (range_with_len a n) ≡ true → (b : ℕ) × (b < a + n) × (p b ≡ true)
+any_counting p zero a e = absurd (both_ways false refl e)
+any_counting p (suc n) a e =
+    elim (or_cases (p a) (list_any p (range_with_len (a + 1) n)) e) [
+      | inl y ↦ (a, omega arith, y)
+      | inr y ↦ let r = any_counting p n (a + 1) y in (r.0, omega (arith, r.1), r.2)
     ]
+
+-- what a true answer says
+reached_near : (s : List Bool) (a : ℕ) → reached s a a ≡ true → (b : ℕ) × Near s a b
+reached_near s a e =
+    let r = any_counting (λ b. listed s b && leb a (b + b)) a 0 e in
+    let p = and_parts (listed s r.0) (leb a (r.0 + r.0)) r.2 in
+    (r.0, (omega (arith, r.1), leb-true a (r.0 + r.0) p.1, p.0))
 
 listed_set : (s : List Bool) (h x : ℕ) → h < length s → listed s x ≡ true → listed (set s h true) x ≡ true
 listed_set s h x l e =
@@ -105,7 +103,7 @@ module _ (s : List Bool) (a : ℕ) (long : length s ≡ 32) (lo : 2 ≤ a) (hi :
         | inl q ↦
             let la : listed s a ≡ true = ap (listed s) (sym q) ∙ e in
             let r : reached s a a ≡ true = grind (arith, nat_tests) in
-            subst (λ (y : ℕ). (b : ℕ) × Near s y b) (sym q) (reached_near s a a (omega arith) r)
+            subst (λ (y : ℕ). (b : ℕ) × Near s y b) (sym q) (reached_near s a r)
         | inr q ↦ C x (omega arith) h e
       ]
 

@@ -4,8 +4,8 @@
 --     lengths cs             the ticked lengths in rising order
 --     Climbs a bs            each number is above the one before it and at most its double
 --     Serves cs ns           ns is a length list that serves the chords cs
-use Rattle.std.specs.Prelude.{◌≡◌, ℕ, zero, suc, ◌+◌, ◌/◌, ◌<◌, ◌≤◌, Bool, true, false, cond, not, ◌&&◌, ◌||◌, List, [], ◌∷◌, reverse, set, replicate, fold, filter, nat_le, slice_index_or, slice_set}
-use Rattle.std.specs.List.{range_with_len}
+use Rattle.std.specs.Prelude.{◌≡◌, ℕ, ◌+◌, ◌/◌, ◌<◌, ◌≤◌, Bool, true, false, cond, not, ◌&&◌, List, [], ◌∷◌, reverse, set, replicate, fold, filter, nat_le, slice_index_or, slice_set}
+use Rattle.std.specs.List.{range_with_len, list_any}
 use Rattle.masks.specs.Points.{Among}
 use Rattle.masks.specs.declared.chord.Chord.{Chord}
 
@@ -19,8 +19,7 @@ ticked cs = fold (λ s c. set s c.length true) (replicate 32 false) cs
 
 -- a listed number below n reaches a when it is doubled
 abbrev pub reached : List Bool → ℕ → ℕ → Bool
-reached s a zero = false
-reached s a (suc b) = reached s a b || (listed s b && nat_le a (b + b))
+reached s a n = list_any (λ b. listed s b && nat_le a (b + b)) (range_with_len 0 n)
 
 -- where a is listed and no listed number below it reaches it when doubled, half of a, rounded up, joins
 abbrev pub halved_at : List Bool → ℕ → List Bool

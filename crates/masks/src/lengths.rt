@@ -71,13 +71,7 @@ fn reached(ticks: &[bool; 32], a: usize) -> bool
     requires { a < 32 }
     ensures { result ≡ reached ticks.now a a }
 {
-    // By `any`, that the answer is the definition's would stay open.
-    for b in 0..a {
-        if reaches(ticks, a, b) {
-            return true;
-        }
-    }
-    false
+    (0..a).any(|b| reaches(ticks, a, b))
 }
 
 // Whether b is listed and reaches a when doubled.

@@ -54,12 +54,7 @@ impl Mask {
         ensures answer { result ≡ length (points self.now.rows 31) }
         ensures once { InOrder Earlier (points self.now.rows 31) }
     {
-        // As a sum over the rows, that the total fits would stay open.
-        let mut n = 0;
-        for r in 0..31 {
-            n += self.row_count(r);
-        }
-        n
+        (0..31).map(|r| self.row_count(r)).sum()
     }
 
     // Whether a point stands in column c and row r of the grid.

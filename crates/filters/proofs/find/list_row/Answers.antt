@@ -1,48 +1,56 @@
 -- A column more is listed, where it is a hit.
-use Rattle.std.proofs.Common.{◌≡◌, ℕ, ◌+◌, ◌<◌, List, [], ◌∷◌, ◌++◌, length, set, sym, refl, ◌∙◌, subst, ap₂, arith}
-use Rattle.std.proofs.lemmas.List.{length-append}
+use Rattle.std.proofs.Common.{◌≡◌, ℕ, ◌+◌, List, [], ◌∷◌, ◌++◌, length, set, sym, refl, ◌∙◌, subst, ap₂, subst₂, arith}
+use Rattle.std.proofs.lemmas.Iterator.{YieldsList-from_slice, YieldsList-from_zip}
+use Rattle.std.proofs.lemmas.Iterator.Consumers.{YieldsList-from_enumerate, YieldsList-turn}
+use Rattle.std.proofs.lemmas.List.{length_push}
 use Rattle.cells.specs.Lattice.{Above}
 use Rattle.morphology.specs.declared.place.Place.{Place}
-use Rattle.filters.specs.Side.{cell_at}
-use Rattle.filters.proofs.Entries.{at_read}
-use Rattle.filters.proofs.Hits.{row_hit, row_pass}
+use Rattle.filters.specs.Find.{RowHits}
+use Rattle.filters.proofs.Hits.{row_hit, row_pass, pair_at}
 use Rattle.filters.proofs.Notes.{note_append}
 use Rattle.filters.proofs.find.list_row.Goals as goal
-use Rattle.filters.proofs.find.list_row.Goals.{then-is_hit, else-is_hit}
+
+pub loop-x-preserved-then-is_hit : goal.loop-x-preserved-then-is_hit
+loop-x-preserved-then-is_hit g c =
+    let k = g.K.Kind.lattice in
+    let f = g.K.Kind.means in
+    let n = length c.loop-x.yielded in
+    let fores = c.args.fores.now in
+    let backs = c.args.backs.now in
+    let t = YieldsList-turn (YieldsList-from_enumerate (YieldsList-from_zip (YieldsList-from_slice fores cc) (YieldsList-from_slice backs cc)) cc) c.loop-x.yielded c.loop-x.x-iterator c.loop-x.yielded_by c.next.result c.next.new.self (c.in-Some.x, (c.in-Some.fore, c.in-Some.back)) c.in-Some.is c.next.ensures.steps in
+    let here = pair_at f k.least k.greatest fores backs n c.in-Some.x c.in-Some.fore.now c.in-Some.back.now c.requires.sizes.0 t.0 t.1 in
+    let more = length_push c.loop-x.yielded (c.in-Some.x, (c.in-Some.fore, c.in-Some.back)) in
+    let qs = c.loop-x.invariant.1.0 in
+    let p : Place = record { x = c.in-Some.x; y = c.args.y } in
+    let a : Above k (f c.in-Some.fore.now) (f c.in-Some.back.now) = c.if-is_hit.ensures.0 refl in
+    let long : length (qs ++ p ∷ []) ≡ length qs + 1 = length_push qs p in
+    let above = subst₂ (Above k) (sym here.1) (sym here.2) a in (
+      omega (arith, c.loop-x.invariant.0, more),
+      (
+        qs ++ p ∷ [],
+        subst (λ (m : ℕ). RowHits k f c.args.y fores backs m (qs ++ p ∷ [])) (sym more) (row_hit k f c.args.y fores backs n qs c.loop-x.invariant.1.1 p here.0 refl above),
+        omega (arith, c.loop-x.invariant.1.2, long),
+        c.write.ensures ∙ ap₂ (λ (l : List Place) (m : ℕ). set l m p) c.loop-x.invariant.1.3 c.loop-x.invariant.1.2 ∙ sym (note_append c.args.before qs (p ∷ []) c.args.places.now),
+      ),
+    )
 
 pub loop-x-preserved : goal.loop-x-preserved
 loop-x-preserved g c =
     let k = g.K.Kind.lattice in
     let f = g.K.Kind.means in
-    let x = c.loop-x.x in
+    let n = length c.loop-x.yielded in
     let fores = c.args.fores.now in
     let backs = c.args.backs.now in
-    let lf : x < length fores = omega arith in
-    let lb : x < length backs = omega (arith, c.requires.sizes.0) in
-    let ef : cell_at f k.least fores x ≡ f c.index-fores-x.result = at_read f k.least fores x c.index-fores-x.result lf c.index-fores-x.is in
-    let eb : cell_at f k.greatest backs x ≡ f c.index-backs-x.result = at_read f k.greatest backs x c.index-backs-x.result lb c.index-backs-x.is in
-    let qs = c.loop-x.invariant.1.0 in
-    let R = c.loop-x.invariant.1.1 in
-    let p : Place = record { x = x; y = c.args.y } in
-    elim c.if-is_hit.branch [
-      | then-is_hit w ↦
-          let a : Above k (f c.index-fores-x.result) (f c.index-backs-x.result) = w.if-is_hit.ensures.0 refl in
-          let long : length (qs ++ p ∷ []) ≡ length qs + 1 = length-append qs (p ∷ []) in (
-            omega (arith, w.hits-is, c.loop-x.invariant.0),
-            (
-              qs ++ p ∷ [],
-              row_hit k f c.args.y fores backs x qs R p refl refl (subst (λ v. Above k v (cell_at f k.greatest backs x)) (sym ef) (subst (λ v. Above k (f c.index-fores-x.result) v) (sym eb) a)),
-              omega (arith, w.hits-is, c.loop-x.invariant.1.2, long),
-              w.places-is ∙ w.write.ensures ∙ ap₂ (λ (l : List Place) (n : ℕ). set l n p) c.loop-x.invariant.1.3 c.loop-x.invariant.1.2 ∙ sym (note_append c.args.before qs (p ∷ []) c.args.places.now),
-            ),
-          )
-      | else-is_hit w ↦ (
-        omega (arith, w.hits-is, c.loop-x.invariant.0),
-        (
-          qs,
-          row_pass k f c.args.y fores backs x qs R (λ a. let z = w.if-is_hit.ensures.1 (subst (λ v. Above k (f c.index-fores-x.result) v) eb (subst (λ v. Above k v (cell_at f k.greatest backs x)) ef a)) in cc),
-          omega (arith, w.hits-is, c.loop-x.invariant.1.2),
-          w.places-is ∙ c.loop-x.invariant.1.3,
-        ),
-      )
-    ]
+    let t = YieldsList-turn (YieldsList-from_enumerate (YieldsList-from_zip (YieldsList-from_slice fores cc) (YieldsList-from_slice backs cc)) cc) c.loop-x.yielded c.loop-x.x-iterator c.loop-x.yielded_by c.next.result c.next.new.self (c.in-Some.x, (c.in-Some.fore, c.in-Some.back)) c.in-Some.is c.next.ensures.steps in
+    let here = pair_at f k.least k.greatest fores backs n c.in-Some.x c.in-Some.fore.now c.in-Some.back.now c.requires.sizes.0 t.0 t.1 in
+    let more = length_push c.loop-x.yielded (c.in-Some.x, (c.in-Some.fore, c.in-Some.back)) in
+    let qs = c.loop-x.invariant.1.0 in (
+      omega (arith, c.loop-x.invariant.0, more),
+      (
+        qs,
+        subst (λ (m : ℕ). RowHits k f c.args.y fores backs m qs) (sym more)
+            (row_pass k f c.args.y fores backs n qs c.loop-x.invariant.1.1 (λ a. let z = c.if-is_hit.ensures.1 (subst₂ (Above k) here.1 here.2 a) in cc)),
+        c.loop-x.invariant.1.2,
+        c.loop-x.invariant.1.3,
+      ),
+    )
