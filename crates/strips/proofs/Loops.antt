@@ -77,11 +77,11 @@ kept (Ok a) b m n e =
     (ap (λ (x : Bool × Left). Ok x.0) p, ap (λ (x : Bool × Left). x.1) p)
 kept (Err f) b m n e = absurd cc
 
-pub step_shorter : (i : ℕ) (ws : List ℕ) (b : Bool) (m : Left) → step_due (from i ws) ≡ Ok (b, m) → (length ws ≡ suc (length m.words)) × (m.place ≡ i + 1)
+pub step_shorter : (i : ℕ) (ws : List ℕ) (b : Bool) (m : Left) → step_due (from i ws) ≡ Ok (b, m) → length ws ≡ suc (length m.words)
 step_shorter i [] b m e = absurd (let n = step_none i in cc)
 step_shorter i (w ∷ ws) b m e =
     let k = kept (step_at i w) b (from (i + 1) ws) m (sym (step_first i w ws) ∙ e) in
-    rw (← k.1) (refl, refl)
+    rw (← k.1) refl
 
 -- the steps that are left, counted on from those before
 abbrev pub added : ℕ → Result (ℕ × Left) StripFault → Result (ℕ × Left) StripFault

@@ -261,7 +261,6 @@ pub record TheSteps (i : ℕ) (ws : List ℕ) (n : ℕ) (m : Left) : Type 0 wher
   pub front : ws ≡ step_words (map step_of (take n ws)) ++ item_word End ∷ m.words
   pub fits : AllByRecursion (λ s. Fits (step_item s)) (map step_of (take n ws))
   pub place : m.place ≡ i + length (step_words (map step_of (take n ws))) + 1
-  pub there : n < length ws
 
 -- the number of steps, seen from the first of them
 one_step : (i w : ℕ) (ws : List ℕ) (n : ℕ) (m : Left) → IsStep w true → TheSteps (i + 1) ws n m → TheSteps i (w ∷ ws) (n + 1) m
@@ -269,7 +268,6 @@ one_step i w ws n m s t = rw add-one (record {
   front = ap (λ (x : ℕ). x ∷ ws) (sym s.0) ∙ ap (λ (v : List ℕ). item_word (step_item (step_of w)) ∷ v) t.front;
   fits = (s.1, t.fits);
   place = omega (arith, t.place);
-  there = omega (arith, t.there);
 })
 
 steps_by : (i w : ℕ) (ws : List ℕ) (b : Bool) (n : ℕ) (m : Left) → IsStep w b → cond b (steps_from (i + 1) ws >>= one_more) (Ok (0, from (i + 1) ws)) ≡ Ok (n, m)
@@ -280,7 +278,7 @@ steps_by i w ws true n m s e more =
     subst (λ (q : ℕ × Left). TheSteps i (w ∷ ws) q.0 q.1) (ok_is one (n, m) p.2) (one_step i w ws p.0.0 p.0.1 s (more p.0.0 p.0.1 p.1))
 steps_by i w ws false n m s e more =
     let one : ℕ × Left = (0, from (i + 1) ws) in
-    let made : TheSteps i (w ∷ ws) 0 (from (i + 1) ws) = record { front = ap (λ (x : ℕ). x ∷ ws) (sym s); fits = tt; place = omega arith; there = omega arith } in
+    let made : TheSteps i (w ∷ ws) 0 (from (i + 1) ws) = record { front = ap (λ (x : ℕ). x ∷ ws) (sym s); fits = tt; place = omega arith } in
     subst (λ (q : ℕ × Left). TheSteps i (w ∷ ws) q.0 q.1) (ok_is one (n, m) e) made
 
 pub steps_take : (i : ℕ) (ws : List ℕ) (n : ℕ) (m : Left) → steps_from i ws ≡ Ok (n, m) → TheSteps i ws n m

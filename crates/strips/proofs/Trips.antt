@@ -1,20 +1,18 @@
 -- The reader and the layout are each other's inverse.
-use Rattle.std.proofs.Common.{◌≡◌, ℕ, ◌+◌, ◌*◌, ◌%◌, ◌≤◌, Bool, cond, ltb, inl, inr, List, length, Result, Ok, Err, sym, ap, subst, ◌∙◌, arith}
+use Rattle.std.proofs.Common.{◌≡◌, ℕ, ◌*◌, ◌%◌, ◌≤◌, Bool, cond, ltb, inl, inr, List, length, Result, Ok, Err, sym, ap, subst, ◌∙◌, arith}
 use Rattle.std.specs.Prelude.{IfOk}
 use Rattle.std.specs.List.{flat_map}
 use Rattle.std.proofs.lemmas.Bool.{le-ltb, ltb-false}
 use Rattle.strips.specs.Words.{word_bytes, words, over}
 use Rattle.strips.specs.Jobs.{Job, job_words, layout}
-use Rattle.strips.specs.Reading.{Left, from, shape_due, count_due, raws_due, job_from, reading}
+use Rattle.strips.specs.Reading.{job_from, reading}
 use Rattle.strips.specs.Views.{job_of, Reads}
 use Rattle.strips.specs.Laws.{Told, OneJob}
 use Rattle.strips.specs.declared.fault.StripFault.{StripFault}
 use Rattle.strips.specs.declared.fault.StripFault.TheVariants.{TooLong}
-use Rattle.strips.specs.declared.parts.Shape.{Shape}
 use Rattle.strips.specs.declared.job.JobStrip.{JobStrip}
 use Rattle.strips.proofs.Items.{chosen}
 use Rattle.strips.proofs.Shapes.{ok_is}
-use Rattle.strips.proofs.Taken.{shape_takes, count_takes, raws_there}
 use Rattle.strips.proofs.Spelled.{AreBytes, words_fit, bytes_again, words_again, length_spelled}
 use Rattle.strips.proofs.Told.{job_takes}
 use Rattle.strips.proofs.Again.{job_again}
@@ -62,14 +60,6 @@ read_words bs j e =
 pub found : (bs : List ℕ) (r : Result JobStrip StripFault) → AreBytes bs → Reads (reading bs) r → IfOk r (λ s. Told bs (job_of s))
 found bs (Ok s) h e = let w = read_words bs (job_of s) e in told bs (job_of s) h w.0 w.1
 found bs (Err f) h e = tt
-
--- the raw words that were passed are there
-pub raws_within : (ws : List ℕ) (s : Shape) (c : ℕ) (left1 left2 left3 : Left) → shape_due (from 0 ws) ≡ Ok (s, left1) → count_due (s.width * s.height) left1 ≡ Ok (c, left2) → raws_due s.kind c left2 ≡ Ok left3 → left2.place + c ≤ length ws
-raws_within ws s c left1 left2 left3 h0 h1 h2 =
-    let t0 = shape_takes ws s left1 h0 in
-    let t1 = count_takes (s.width * s.height) left1.place left1.words c left2 h1 in
-    let long : List ℕ → ℕ = λ v. length v in
-    omega (arith, t0.place, t1.place, ap long t0.front, ap long t1.front, raws_there s.kind c left2.place left2.words left3 h2)
 
 pub one_job : OneJob
 one_job bs j k t u = ok_is j k (sym (retold bs j t) ∙ retold bs k u)

@@ -1,10 +1,11 @@
 -- What the reader's values stand for.
 --     left s             what is left of a strip that is being read
 --     Gives d s t r      r, the answer of a call that took the strip from s to t, is what the reading d gives at s
+--     GivesAs f d s t r  the same, where f reads what is told from the answer
 --     Passes d s t r     the same, where nothing but what is left is told
 --     job_of s           the job that an accepted strip tells
 --     Reads r a          a, the reader's answer, is the reading r
-use Rattle.std.specs.Prelude.{◌≡◌, map, drop, Ok, Err, Result}
+use Rattle.std.specs.Prelude.{◌≡◌, map, Ok, Err, Result}
 use Rattle.strips.specs.Words.{numbers}
 use Rattle.strips.specs.Jobs.{Job, step_of}
 use Rattle.strips.specs.Reading.{Left, from}
@@ -13,15 +14,18 @@ use Rattle.strips.specs.declared.strip.Strip.{Strip}
 use Rattle.strips.specs.declared.job.JobStrip.{JobStrip}
 
 abbrev pub left : Strip → Left
-left s = from s.place (drop s.place (numbers s.words.now))
+left s = from s.place (numbers s.words.now)
+
+abbrev pub GivesAs : {A B : Type 0} → (B → A) → (Left → Result (A × Left) StripFault) → Strip → Strip → Result B StripFault → Type 0
+GivesAs f due s t (Ok x) = due (left s) ≡ Ok (f x, left t)
+GivesAs f due s t (Err e) = due (left s) ≡ Err e
 
 abbrev pub Gives : {A : Type 0} → (Left → Result (A × Left) StripFault) → Strip → Strip → Result A StripFault → Type 0
-Gives due s t (Ok x) = (due (left s) ≡ Ok (x, left t)) × (t.words.now ≡ s.words.now)
-Gives due s t (Err f) = due (left s) ≡ Err f
+Gives due s t r = GivesAs (λ x. x) due s t r
 
 abbrev pub Passes : {A : Type 0} → (Left → Result Left StripFault) → Strip → Strip → Result A StripFault → Type 0
-Passes due s t (Ok x) = (due (left s) ≡ Ok (left t)) × (t.words.now ≡ s.words.now)
-Passes due s t (Err f) = due (left s) ≡ Err f
+Passes due s t (Ok x) = due (left s) ≡ Ok (left t)
+Passes due s t (Err e) = due (left s) ≡ Err e
 
 -- its raw words, and the steps that its other words are
 abbrev pub job_of : JobStrip → Job

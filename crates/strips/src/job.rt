@@ -12,7 +12,7 @@ use crate::item::Item;
 use crate::kind::CellKind;
 use crate::parts::{Frame, Shape, Step};
 use crate::strip::Strip;
-use crate::words::{part, word_at};
+use crate::words::word_at;
 
 // The most bytes that a strip has.
 const MOST: usize = 65_536;
@@ -148,16 +148,14 @@ fn read_words<'a>(words: &'a [[u8; 4]], over: &[u8]) -> Result<JobStrip<'a>, Str
     let mut strip = Strip { words, place: 0 };
     let shape = strip.shape()?;
     let cells = strip.count(shape.width * shape.height)?;
-    let first_cell = strip.place;
-    strip.raws(shape.kind, cells)?;
+    let raws = strip.raws(shape.kind, cells)?;
     let window = strip.window()?;
-    let first_step = strip.place;
     let steps = strip.steps()?;
     strip.ended(over)?;
     Ok(JobStrip {
         shape,
-        raws: part(words, first_cell, cells as usize),
+        raws,
         window,
-        steps: part(words, first_step, steps),
+        steps,
     })
 }

@@ -1,41 +1,47 @@
 // A strip that is being read, word by word.
-ghost use Rattle.std.specs.Prelude.{◌≡◌, ◌^◌, ◌<◌, length, IfOk, ◌==◌};
-ghost use Rattle.strips.specs.Words.{kind};
-ghost use Rattle.strips.specs.Reading.{word_due, item_due, shape_of, shape_due, count_of, count_due, cell_due, raws_due, frame_due, begins, window_due, is_step, step_due, steps_due, ended};
-ghost use Rattle.strips.specs.Views.{left, Gives, Passes};
+ghost use Rattle.std.specs.Prelude.{◌≡◌, ◌+◌, ◌^◌, ◌<◌, length, take, IfOk, ◌==◌};
+ghost use Rattle.strips.specs.Words.{kind, numbers};
+ghost use Rattle.strips.specs.Reading.{cell_of, shape_of, count_of, corner_of, extent_of, is_step};
 
 use crate::fault::StripFault;
 use crate::item::Item;
 use crate::kind::CellKind;
 use crate::parts::{Frame, Shape};
-use crate::words::word_at;
 
-// The words of a strip, and the number of the next one.
+// What is left of a strip: its words, and the number of the first of them.
 #[derive(Drop)]
 pub(crate) struct Strip<'a> {
     pub(crate) words: &'a [[u8; 4]],
     pub(crate) place: usize,
+    ghost within: { place + length words.now < 2 ^ 63 },
 }
 
-impl Strip<'_> {
+impl<'a> Strip<'a> {
+    ghost use Rattle.strips.specs.Reading.{word_due, item_due, shape_due, count_due, cell_due, raws_due, frame_due, begins, window_due, step_due, steps_due, ended};
+    ghost use Rattle.strips.specs.Views.{left, Gives, GivesAs, Passes};
+
     // Takes the next word.
-    fn word(&mut self) -> Result<u32, StripFault>
-        ensures { Gives word_due self.old self.new result }
+    fn word(&mut self) -> Result<Placed<u32>, StripFault>
+        ensures word { GivesAs (λ w. w.said) word_due self.old self.new result }
+        ensures place { IfOk result (λ w. w.place ≡ self.old.place) }
     {
-        let word = word_at(self.words, self.place).ok_or(StripFault::CutShort(self.place))?;
+        let place = self.place;
+        let (word, rest) = self.words.split_first().ok_or(StripFault::CutShort(place))?;
+        self.words = rest;
         self.place += 1;
-        Ok(word)
+        let said = u32::from_be_bytes(*word);
+        Ok(Placed { said, place })
     }
 
-    // Takes what the next word says. Its place is told apart from it, as in the definitions, where it belongs to what was
-    // left.
+    // Takes what the next word says.
     #[tactic(auto, unfolding(crate::specs::Reading::item_due))]
-    fn item(&mut self) -> Result<Item, StripFault>
-        ensures { Gives item_due self.old self.new result }
+    fn item(&mut self) -> Result<Placed<Item>, StripFault>
+        ensures item { GivesAs (λ x. x.said) item_due self.old self.new result }
+        ensures place { IfOk result (λ x. x.place ≡ self.old.place) }
     {
-        let at = self.place;
-        let word = self.word()?;
-        Item::try_from(word).map_err(|_| StripFault::NoWord(at))
+        let Placed { said, place } = self.word()?;
+        let said = Item::try_from(said).map_err(|_| StripFault::NoWord(place))?;
+        Ok(Placed { said, place })
     }
 
     // Takes the head.
@@ -44,9 +50,7 @@ impl Strip<'_> {
         ensures answer { Gives shape_due self.old self.new result }
         ensures within { IfOk result (λ s. s.width < 2 ^ 12 × s.height < 2 ^ 12) }
     {
-        let at = self.place;
-        let item = self.item()?;
-        shape_of(at, item)
+        self.item()?.shape()
     }
 
     // Takes the cells word, which says that so many raw words follow.
@@ -54,9 +58,7 @@ impl Strip<'_> {
     pub(crate) fn count(&mut self, cells: u32) -> Result<u32, StripFault>
         ensures { Gives (count_due cells) self.old self.new result }
     {
-        let at = self.place;
-        let item = self.item()?;
-        count_of(cells, at, item)
+        self.item()?.count(cells)
     }
 
     // Takes a raw word, a cell of that kind.
@@ -64,23 +66,19 @@ impl Strip<'_> {
     fn cell(&mut self, kind: CellKind) -> Result<u32, StripFault>
         ensures { Gives (cell_due kind) self.old self.new result }
     {
-        let at = self.place;
-        let word = self.word()?;
-        if kind.has(word) {
-            Ok(word)
-        } else {
-            Err(StripFault::NoCell(at))
-        }
+        self.word()?.cell(kind)
     }
 
     // Takes n raw words, cells of that kind.
-    pub(crate) fn raws(&mut self, kind: CellKind, n: u32) -> Result<(), StripFault>
-        ensures { Passes (raws_due kind n) self.old self.new result }
+    pub(crate) fn raws(&mut self, kind: CellKind, n: u32) -> Result<&'a [[u8; 4]], StripFault>
+        ensures passed { Passes (raws_due kind n) self.old self.new result }
+        ensures words { IfOk result (λ r. numbers r.now ≡ take n (left self.old).words) }
     {
+        let all = self.words;
         for _ in 0..n {
-            let _cell = self.cell(kind)?;
+            self.cell(kind)?;
         }
-        Ok(())
+        Ok(&all[..n as usize])
     }
 
     // Takes the corner and the extent of a window.
@@ -88,14 +86,8 @@ impl Strip<'_> {
     fn frame(&mut self) -> Result<Frame, StripFault>
         ensures { Gives frame_due self.old self.new result }
     {
-        let at = self.place;
-        let Item::Corner { column, row } = self.item()? else {
-            return Err(StripFault::OutOfOrder(at));
-        };
-        let next = self.place;
-        let Item::Extent { width, height } = self.item()? else {
-            return Err(StripFault::OutOfOrder(next));
-        };
+        let (column, row) = self.item()?.corner()?;
+        let (width, height) = self.item()?.extent()?;
         Ok(Frame {
             column,
             row,
@@ -108,7 +100,9 @@ impl Strip<'_> {
     fn begins(&self) -> bool
         ensures { result ≡ begins (left self.now).words }
     {
-        word_at(self.words, self.place).is_some_and(is_corner)
+        self.words
+            .first()
+            .is_some_and(|word| is_corner(u32::from_be_bytes(*word)))
     }
 
     // Takes the window, if a corner stands there.
@@ -128,26 +122,25 @@ impl Strip<'_> {
     fn step(&mut self) -> Result<bool, StripFault>
         ensures { Gives step_due self.old self.new result }
     {
-        let at = self.place;
-        let item = self.item()?;
-        is_step(at, item)
+        self.item()?.is_step()
     }
 
-    // Takes the steps and the end word; how many steps there are.
-    pub(crate) fn steps(&mut self) -> Result<usize, StripFault>
-        ensures { Gives steps_due self.old self.new result }
+    // Takes the steps and the end word.
+    pub(crate) fn steps(&mut self) -> Result<&'a [[u8; 4]], StripFault>
+        ensures count { GivesAs (λ r. length r.now) steps_due self.old self.new result }
+        ensures words { IfOk result (λ r. numbers r.now ≡ take (length r.now) (left self.old).words) }
     {
-        let first = self.place;
+        let all = self.words;
         while self.step()? {}
         // All words taken are steps, but for the end.
-        Ok(self.place - first - 1)
+        Ok(&all[..all.len() - self.words.len() - 1])
     }
 
     // Whether nothing is left, not even one of these bytes that are no whole word.
     pub(crate) fn ended(&self, over: &[u8]) -> Result<(), StripFault>
         ensures { Passes (ended (length over.now)) self.now self.now result }
     {
-        if self.words.len() <= self.place && over.is_empty() {
+        if self.words.is_empty() && over.is_empty() {
             Ok(())
         } else {
             Err(StripFault::OutOfOrder(self.place))
@@ -162,45 +155,85 @@ fn is_corner(word: u32) -> bool
     word / 0x1000_0000 == 3
 }
 
-// The head's kind, width and height.
-fn shape_of(at: usize, item: Item) -> Result<Shape, StripFault>
-    ensures { result ≡ shape_of at item }
-{
-    let Item::Head {
-        kind,
-        width,
-        height,
-    } = item
-    else {
-        return Err(StripFault::OutOfOrder(at));
-    };
-    let kind = kind.map_err(|_| StripFault::NoKind(at))?;
-    Ok(Shape {
-        kind,
-        width,
-        height,
-    })
+// A word, or what it says, with the number of the word.
+#[derive(Clone, Copy)]
+struct Placed<T> {
+    said: T,
+    place: usize,
 }
 
-// The count of the cells word, if it is that number.
-fn count_of(cells: u32, at: usize, item: Item) -> Result<u32, StripFault>
-    ensures { result ≡ count_of cells at item }
-{
-    match item {
-        Item::Cells(count) if count == cells => Ok(cells),
-        Item::Cells(_) => Err(StripFault::WrongCount(at)),
-        _ => Err(StripFault::OutOfOrder(at)),
+impl Placed<u32> {
+    // The word itself, if it is a cell of that kind.
+    fn cell(self, kind: CellKind) -> Result<u32, StripFault>
+        ensures { result ≡ cell_of kind self.place self.said }
+    {
+        let Placed { said, place } = self;
+        kind.has(said)
+            .then_some(said)
+            .ok_or(StripFault::NoCell(place))
     }
 }
 
-// Whether it is a step; the end is none.
-fn is_step(at: usize, item: Item) -> Result<bool, StripFault>
-    ensures { result ≡ is_step at item }
-{
-    match item {
-        Item::Point { .. } => Ok(true),
-        Item::Call(_) => Ok(true),
-        Item::End => Ok(false),
-        _ => Err(StripFault::OutOfOrder(at)),
+impl Placed<Item> {
+    // The head's kind, width and height.
+    fn shape(self) -> Result<Shape, StripFault>
+        ensures { result ≡ shape_of self.place self.said }
+    {
+        let Item::Head {
+            kind,
+            width,
+            height,
+        } = self.said
+        else {
+            return Err(StripFault::OutOfOrder(self.place));
+        };
+        let kind = kind.map_err(|_| StripFault::NoKind(self.place))?;
+        Ok(Shape {
+            kind,
+            width,
+            height,
+        })
+    }
+
+    // The count of the cells word, if it is that number.
+    fn count(self, cells: u32) -> Result<u32, StripFault>
+        ensures { result ≡ count_of cells self.place self.said }
+    {
+        match self.said {
+            Item::Cells(count) if count == cells => Ok(cells),
+            Item::Cells(_) => Err(StripFault::WrongCount(self.place)),
+            _ => Err(StripFault::OutOfOrder(self.place)),
+        }
+    }
+
+    // The column and the row of a corner.
+    fn corner(self) -> Result<(u32, u32), StripFault>
+        ensures { result ≡ corner_of self.place self.said }
+    {
+        match self.said {
+            Item::Corner { column, row } => Ok((column, row)),
+            _ => Err(StripFault::OutOfOrder(self.place)),
+        }
+    }
+
+    // The width and the height of an extent.
+    fn extent(self) -> Result<(u32, u32), StripFault>
+        ensures { result ≡ extent_of self.place self.said }
+    {
+        match self.said {
+            Item::Extent { width, height } => Ok((width, height)),
+            _ => Err(StripFault::OutOfOrder(self.place)),
+        }
+    }
+
+    // Whether it is a step; the end is none.
+    fn is_step(self) -> Result<bool, StripFault>
+        ensures { result ≡ is_step self.place self.said }
+    {
+        match self.said {
+            Item::Point { .. } | Item::Call(_) => Ok(true),
+            Item::End => Ok(false),
+            _ => Err(StripFault::OutOfOrder(self.place)),
+        }
     }
 }

@@ -10,11 +10,3 @@ pub(crate) fn word_at(words: &[[u8; 4]], i: usize) -> Option<u32>
 {
     words.get(i).map(|word| u32::from_be_bytes(*word))
 }
-
-// So many words from that one on.
-pub(crate) fn part(words: &[[u8; 4]], first: usize, count: usize) -> &[[u8; 4]]
-    requires { first + count ≤ length words.now }
-    ensures { numbers result.now ≡ take count (drop first (numbers words.now)) }
-{
-    &words[first..first + count]
-}

@@ -5,7 +5,4 @@ use Rattle.strips.specs.Views.{left}
 use Rattle.strips.proofs.strip.Strip.raws.Given as goal
 
 abbrev pub invariant-loop : goal.invariant-loop
-invariant-loop l = record {
-  reads : raws_due l.kind (l.n - l.counter) (left l.self) ≡ raws_due l.kind l.n (left l.fn.self);
-  words : l.self.words.now ≡ l.fn.self.words.now;
-}
+invariant-loop l = raws_due l.kind (l.n - l.counter) (left l.self) ≡ raws_due l.kind l.n (left l.fn.self)

@@ -4,4 +4,4 @@ use Rattle.strips.proofs.Shapes.{shape_within}
 use Rattle.strips.proofs.strip.Strip.shape.Goals as goal
 
 pub returns-clause-within : goal.returns-clause-within
-returns-clause-within c = shape_within (left c.args.self.now) (left c.item.new.self) c.args.self.now.place c.in_ok-item.item c.shape_of.result c.in_ok-item.ensures.0 c.shape_of.ensures
+returns-clause-within c = shape_within (left c.args.self.now) (left c.item.new.self) c.in_ok-item.field-0.place c.in_ok-item.field-0.said c.shape.result c.in_ok-item.ensures.item c.shape.ensures

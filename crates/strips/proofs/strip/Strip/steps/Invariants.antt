@@ -7,9 +7,8 @@ use Rattle.strips.proofs.strip.Strip.steps.Given as goal
 
 abbrev pub invariant-loop : goal.invariant-loop
 invariant-loop l = record {
-  reads : added (l.self.place - l.initial.self.place) (steps_due (left l.self)) ≡ added 0 (steps_due (left l.initial.self));
-  words : l.self.words.now ≡ l.initial.self.words.now;
-  after : l.initial.self.place ≤ l.self.place;
+  reads : added (length (left l.initial.self).words - length (left l.self).words) (steps_due (left l.self)) ≡ added 0 (steps_due (left l.initial.self));
+  fewer : length (left l.self).words ≤ length (left l.initial.self).words;
 }
 
 abbrev pub decreases-loop : goal.decreases-loop

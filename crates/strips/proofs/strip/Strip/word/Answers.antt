@@ -1,22 +1,13 @@
 -- The next word is the first of those that are left.
-use Rattle.std.proofs.Common.{ℕ, ◌+◌, drop, Result, refl, sym, ap, ◌∙◌}
 use Rattle.std.proofs.lemmas.Result.{err_from_is_err_and}
-use Rattle.strips.specs.Words.{numbers}
-use Rattle.strips.specs.Reading.{from, ◌>>=◌}
-use Rattle.strips.specs.declared.fault.StripFault.{StripFault}
-use Rattle.strips.proofs.Fronts.{word_next}
-use Rattle.strips.proofs.Loops.{beside}
+use Rattle.strips.proofs.Fronts.{word_first, word_none}
 use Rattle.strips.proofs.strip.Strip.word.Goals as goal
 
-pub returns-in_err-word : goal.returns-in_err-word
-returns-in_err-word c =
-    let i = c.args.self.now.place in
-    let ws = numbers c.args.self.now.words.now in
+pub returns-in_err-word-clause-word : goal.returns-in_err-word-clause-word
+returns-in_err-word-clause-word c =
     let p = err_from_is_err_and c.from_residual.result c.from_residual.ensures.1 in
-    rw (p.1, p.2) (word_next i ws c.word_at.result c.word_at.ensures.answer ∙ ap (λ (r : Result ℕ StripFault). r >>= beside (from (i + 1) (drop (i + 1) ws))) (sym c.ok_or.ensures.value ∙ c.in_err-word.was))
+    let cut = rw c.in_err-word.ensures.ok_part at c.in_err-word.ensures.value in
+    rw (p.1, p.2) (word_none c.args.self.now.place c.args.self.now.words.now c.in_err-word.field-0.0 (rw c.in_err-word.ensures.ok_part at c.split_first.ensures.cases) cut)
 
-pub returns : goal.returns
-returns c =
-    let i = c.args.self.now.place in
-    let ws = numbers c.args.self.now.words.now in
-    (word_next i ws c.word_at.result c.word_at.ensures.answer ∙ ap (λ (r : Result ℕ StripFault). r >>= beside (from (i + 1) (drop (i + 1) ws))) (sym c.ok_or.ensures.value ∙ c.in_ok-word.was), refl)
+pub returns-clause-word : goal.returns-clause-word
+returns-clause-word c = word_first c.args.self.now.place c.from_be_bytes-said.result c.args.self.now.words.now c.in_ok-word.rest.now c.in_ok-word.word.now (rw c.in_ok-word.ensures.ok_part at c.split_first.ensures.cases).0 c.from_be_bytes-said.ensures
