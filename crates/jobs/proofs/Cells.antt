@@ -9,7 +9,7 @@ use Rattle.sheets.specs.Sheet.{Sheet, shown, inside}
 use Rattle.sheets.specs.Rows.{row_place, row_count, whole_rows}
 use Rattle.strips.specs.declared.kind.CellKind.{CellKind}
 use Rattle.strips.specs.declared.kind.CellKind.TheVariants.{Gray, Height, Flags, Return}
-use Rattle.strips.specs.declared.parts.Frame.{Frame}
+use Rattle.sheets.specs.declared.window.Rectangle.{Rectangle}
 use Rattle.cells.specs.Lattice.{Lattice}
 use Rattle.strips.specs.Jobs.{Job}
 use Rattle.jobs.specs.Piles.{turned, framed, topmost}
@@ -37,18 +37,18 @@ module _ {A B : Type 0} (f : A → B) where
   turned_shown Flags s = refl
   turned_shown Return s = refl
 
-  framed_shown : (o : Option Frame) (s : Sheet A) → shown f (framed o s) ≡ framed o (shown f s)
+  framed_shown : (o : Option Rectangle) (s : Sheet A) → shown f (framed o s) ≡ framed o (shown f s)
   framed_shown None s = refl
   framed_shown (Some r) s =
       let top = framed (Some r) (shown f s) in
       let by : (ℕ → ℕ → Option B) → Sheet B = λ c. record { width = top.width; height = top.height; cell = c } in
-      ap by (fun_ext (λ x. fun_ext (λ y. cond_shown (inside r.width r.height x y) (s.cell (r.column + x) (r.row + y)))))
+      ap by (fun_ext (λ x. fun_ext (λ y. cond_shown (inside r.size.width r.size.height x y) (s.cell (r.left + x) (r.top + y)))))
 
-  topmost_shown : (k : CellKind) (w : ℕ) (o : Option Frame) (xs : List A) → shown f (topmost k w o xs) ≡ topmost k w o (map f xs)
+  topmost_shown : (k : CellKind) (w : ℕ) (o : Option Rectangle) (xs : List A) → shown f (topmost k w o xs) ≡ topmost k w o (map f xs)
   topmost_shown k w o xs = framed_shown o (turned k (whole_rows w xs)) ∙ ap (framed o) (turned_shown k (whole_rows w xs) ∙ ap (turned k) (rows_shown w xs))
 
 -- values that mean what the words do, in one pile
-pub topmost_same : {K C : Type 0} (f : K → C) (g : ℕ → C) (k : CellKind) (w : ℕ) (o : Option Frame) (xs : List K) (raws : List ℕ) → map f xs ≡ map g raws → shown f (topmost k w o xs) ≡ shown g (topmost k w o raws)
+pub topmost_same : {K C : Type 0} (f : K → C) (g : ℕ → C) (k : CellKind) (w : ℕ) (o : Option Rectangle) (xs : List K) (raws : List ℕ) → map f xs ≡ map g raws → shown f (topmost k w o xs) ≡ shown g (topmost k w o raws)
 topmost_same f g k w o xs raws e = topmost_shown f k w o xs ∙ ap (topmost k w o) e ∙ sym (topmost_shown g k w o raws)
 
 -- the listing of the pile is that of the job

@@ -3,6 +3,7 @@ use Rattle.std.proofs.Common.{◌≡◌, ℕ, ◌+◌, List, [], ◌∷◌, ◌+
 use Rattle.std.proofs.lemmas.List.{append-nil, length-map}
 use Rattle.masks.specs.declared.point.Point.{Point}
 use Rattle.strips.specs.Jobs.{point_of}
+use Rattle.strips.specs.declared.parts.PointFields.{PointFields}
 use Rattle.strips.specs.declared.parts.Step.{Step}
 use Rattle.strips.specs.declared.parts.Step.TheVariants as steps
 use Rattle.jobs.specs.Acts.{closed, acts}
@@ -10,17 +11,17 @@ use Rattle.jobs.specs.Laws.{run_steps, run_points, Runs}
 use Rattle.jobs.specs.declared.act.Act.TheVariants.{Filter}
 
 -- behind points that were taken before, the run goes on
-run_taken : (w : ℕ) (ps : List Point) (r : List (ℕ × ℕ)) (ss : List Step) → acts w ps (run_steps r ++ ss) ≡ acts w (ps ++ run_points r) ss
+run_taken : (w : ℕ) (ps : List Point) (r : List PointFields) (ss : List Step) → acts w ps (run_steps r ++ ss) ≡ acts w (ps ++ run_points r) ss
 run_taken w ps [] ss = ap (λ (qs : List Point). acts w qs ss) (sym (append-nil ps))
 run_taken w ps (p ∷ r) ss =
-    run_taken w (ps ++ point_of p.0 p.1 ∷ []) r ss
-    ∙ ap (λ (qs : List Point). acts w qs ss) (append_assoc ps (point_of p.0 p.1 ∷ []) (run_points r))
+    run_taken w (ps ++ point_of p ∷ []) r ss
+    ∙ ap (λ (qs : List Point). acts w qs ss) (append_assoc ps (point_of p ∷ []) (run_points r))
 
 pub runs : Runs
 runs = record {
   call = λ w r q ss.
       run_taken w [] r (steps.Call q ∷ ss)
-      ∙ ap (λ (n : ℕ). closed w (run_points r) (Filter q ∷ acts (w + n + 1) [] ss)) (length-map r (λ p. point_of p.0 p.1));
+      ∙ ap (λ (n : ℕ). closed w (run_points r) (Filter q ∷ acts (w + n + 1) [] ss)) (length-map r (λ p. point_of p));
   end = λ w r.
       ap (acts w []) (sym (append-nil (run_steps r))) ∙ run_taken w [] r [];
 }

@@ -16,7 +16,7 @@ use Rattle.morphology.specs.declared.refusal.Refusal.TheVariants.{WrongSize, Sho
 use Rattle.morphology.specs.declared.call.Filter as filters
 use Rattle.morphology.specs.declared.call.Filter.TheVariants.{Erode, Dilate, Open, Close}
 use Rattle.jobs.specs.Acts.{Alike}
-use Rattle.jobs.specs.Listings.{line_of, left, lines, rows, performed, told}
+use Rattle.jobs.specs.Listings.{line_of, left, lines, rows, performed}
 use Rattle.jobs.specs.declared.act.Act.{Act}
 use Rattle.jobs.specs.declared.act.Act.TheVariants.{Run, Filter}
 use Rattle.jobs.specs.declared.line.Line.{Line}
@@ -119,8 +119,8 @@ module _ {C : Type 0} (k : Lattice C) where
       let s : g ≡ g' = sheet_same k q u v f uv in
       let t : answered_by q u f.width f.height ≡ answered_by q v f.width f.height = answer_same q u v f.width f.height uv in
       subst (λ (z : Act). (lines k (Filter q ∷ xs) (at f a) ≡ lines k (z ∷ ys) (at f b)) × ((left k (Filter q ∷ xs) (at f a)).sheet ≡ (left k (z ∷ ys) (at f b)).sheet)) (sym h.0) (
-        ap (λ (r : Result ℕ Refusal). Call q (told r) ∷ lines k xs (at g a)) t
-            ∙ ap (λ (ls : List Line). Call q (told (answered_by q v f.width f.height)) ∷ ls) (rest.0 ∙ ap (λ (i : Sheet C). lines k ys (at i b)) s),
+        ap (λ (r : Result ℕ Refusal). Call q r ∷ lines k xs (at g a)) t
+            ∙ ap (λ (ls : List Line). Call q (answered_by q v f.width f.height) ∷ ls) (rest.0 ∙ ap (λ (i : Sheet C). lines k ys (at i b)) s),
         rest.1 ∙ ap (λ (i : Sheet C). (left k ys (at i b)).sheet) s,
       )
 

@@ -20,7 +20,6 @@ use Rattle.jobs.specs.Masks.{mask_of}
 use Rattle.jobs.specs.declared.act.Act.{Act}
 use Rattle.jobs.specs.declared.act.Act.TheVariants.{Run, Filter}
 use Rattle.jobs.specs.declared.fault.PointsFault.{PointsFault}
-use Rattle.jobs.specs.declared.fault.JobFault.TheVariants as faults
 
 -- each point is one word, so the point at place i of the run is word w + i
 abbrev pub blamed : ℕ → MaskFault → PointsFault
@@ -29,7 +28,7 @@ blamed w (Beyond i) = record { fault = Beyond i; word = w + i }
 
 -- the run is refused
 abbrev pub refuse : ℕ → MaskFault → Act
-refuse w f = Run (Err (faults.Mask (blamed w f)))
+refuse w f = Run (Err (blamed w f))
 
 -- the mask is laid; points that are not refused have one
 abbrev pub laid : ℕ → Option Mask → Act
@@ -50,7 +49,7 @@ closed w (p ∷ ps) xs = act_of w (p ∷ ps) ∷ xs
 -- a point lengthens the run; a call closes it, and so does the end
 abbrev pub acts : ℕ → List Point → List Step → List Act
 acts w ps [] = closed w ps []
-acts w ps (steps.Point u v ∷ ss) = acts w (ps ++ point_of u v ∷ []) ss
+acts w ps (steps.Point p ∷ ss) = acts w (ps ++ point_of p ∷ []) ss
 acts w ps (steps.Call q ∷ ss) = closed w ps (Filter q ∷ acts (w + length ps + 1) [] ss)
 
 abbrev pub job_acts : Job → List Act

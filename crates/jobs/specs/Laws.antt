@@ -10,6 +10,7 @@ use Rattle.masks.specs.declared.point.Point.{Point}
 use Rattle.masks.specs.declared.mask.Mask.{Mask}
 use Rattle.morphology.specs.declared.call.Filter as filters
 use Rattle.strips.specs.Jobs.{point_of}
+use Rattle.strips.specs.declared.parts.PointFields.{PointFields}
 use Rattle.strips.specs.declared.parts.Step.{Step}
 use Rattle.strips.specs.declared.parts.Step.TheVariants as steps
 use Rattle.jobs.specs.Masks.{mask_of}
@@ -22,13 +23,13 @@ MaskOf ps o = (m : Mask) × (o ≡ Some m) × Drawn m.rows ps
 abbrev pub Masks : Type 0
 Masks = (ps : List Point) → refused ps ≡ None → MaskOf ps (mask_of ps)
 
-abbrev pub run_steps : List (ℕ × ℕ) → List Step
-run_steps r = map (λ p. steps.Point p.0 p.1) r
+abbrev pub run_steps : List PointFields → List Step
+run_steps r = map (λ p. steps.Point p) r
 
-abbrev pub run_points : List (ℕ × ℕ) → List Point
-run_points r = map (λ p. point_of p.0 p.1) r
+abbrev pub run_points : List PointFields → List Point
+run_points r = map point_of r
 
 -- these two tell the acts of all steps, since steps are runs of points with calls between them
 pub record Runs : Type 0 where
-  pub call : (w : ℕ) (r : List (ℕ × ℕ)) (q : filters.Filter) (ss : List Step) → acts w [] (run_steps r ++ steps.Call q ∷ ss) ≡ closed w (run_points r) (Filter q ∷ acts (w + length r + 1) [] ss)
-  pub end : (w : ℕ) (r : List (ℕ × ℕ)) → acts w [] (run_steps r) ≡ closed w (run_points r) []
+  pub call : (w : ℕ) (r : List PointFields) (q : filters.Filter) (ss : List Step) → acts w [] (run_steps r ++ steps.Call q ∷ ss) ≡ closed w (run_points r) (Filter q ∷ acts (w + length r + 1) [] ss)
+  pub end : (w : ℕ) (r : List PointFields) → acts w [] (run_steps r) ≡ closed w (run_points r) []

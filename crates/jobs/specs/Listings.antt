@@ -1,7 +1,6 @@
 -- The listing of a job, line by line.
 --     left_by k a s        the state after an act
 --     line_of a s          the line of an act on the state s
---     told r             what a filter answers, as an answer of the job
 --     left k xs s          the state after some acts
 --     lines k xs s         their lines
 --     word_at word o       the word of the cell o, if there is one
@@ -22,7 +21,6 @@ use Rattle.sheets.specs.Sheet.{Sheet, shown}
 use Rattle.morphology.specs.Calls.{State, new, after, answered}
 use Rattle.morphology.specs.Refusals.{sized}
 use Rattle.morphology.specs.declared.call.Call.TheVariants as calls
-use Rattle.morphology.specs.declared.refusal.Refusal.{Refusal}
 use Rattle.strips.specs.Jobs.{Job}
 use Rattle.strips.specs.declared.kind.CellKind.{CellKind}
 use Rattle.strips.specs.declared.kind.CellKind.TheVariants as kinds
@@ -32,7 +30,6 @@ use Rattle.jobs.specs.Acts.{job_acts}
 use Rattle.jobs.specs.Piles.{pile}
 use Rattle.jobs.specs.declared.act.Act.{Act}
 use Rattle.jobs.specs.declared.act.Act.TheVariants.{Run, Filter}
-use Rattle.jobs.specs.declared.fault.JobFault.{JobFault}
 use Rattle.jobs.specs.declared.fault.JobFault.TheVariants as faults
 use Rattle.jobs.specs.declared.line.Line.{Line}
 use Rattle.jobs.specs.declared.line.Line.TheVariants.{Refused, Sheet as SheetLine, Mask as MaskLine, Call, Cells}
@@ -43,16 +40,11 @@ left_by k (Run (Ok m)) s = after k (calls.Lay m) s
 left_by k (Run (Err f)) s = s
 left_by k (Filter q) s = after k (calls.Apply q 16384) s
 
--- what a filter answers, with its refusal as one of the job
-abbrev pub told : Result ℕ Refusal → Result ℕ JobFault
-told (Ok n) = Ok n
-told (Err r) = Err (faults.Worksheet r)
-
 -- of a mask that is laid, its points and its chords; of a filter, its picks or its refusal
 abbrev pub line_of : {C : Type 0} → Act → State C → Line
 line_of (Run (Ok m)) s = MaskLine (length (points m.rows 31)) (length (chords m.rows 31))
-line_of (Run (Err f)) s = Refused f
-line_of (Filter q) s = Call q (told (answered q 16384 s))
+line_of (Run (Err f)) s = Refused (faults.Mask f)
+line_of (Filter q) s = Call q (answered q 16384 s)
 
 abbrev pub left : {C : Type 0} → Lattice C → List Act → State C → State C
 left k [] s = s

@@ -8,10 +8,10 @@ use Rattle.sheets.specs.Sheet.{Sheet}
 use Rattle.sheets.specs.Rows.{whole_rows}
 use Rattle.sheets.specs.SouthUp.{flipped}
 use Rattle.sheets.specs.Part.{part}
-use Rattle.strips.specs.Jobs.{Job, asked}
+use Rattle.strips.specs.Jobs.{Job}
 use Rattle.strips.specs.declared.kind.CellKind.{CellKind}
 use Rattle.strips.specs.declared.kind.CellKind.TheVariants.{Gray, Height, Flags, Return}
-use Rattle.strips.specs.declared.parts.Frame.{Frame}
+use Rattle.sheets.specs.declared.window.Rectangle.{Rectangle}
 
 -- the rows of heights come southmost first
 abbrev pub turned : {C : Type 0} → CellKind → Sheet C → Sheet C
@@ -20,12 +20,12 @@ turned Height s = flipped s
 turned Flags s = s
 turned Return s = s
 
-abbrev pub framed : {C : Type 0} → Option Frame → Sheet C → Sheet C
+abbrev pub framed : {C : Type 0} → Option Rectangle → Sheet C → Sheet C
 framed None s = s
-framed (Some f) s = part s (asked f)
+framed (Some r) s = part s r
 
 -- the window lies on what is shown below it
-abbrev pub topmost : {C : Type 0} → CellKind → ℕ → Option Frame → List C → Sheet C
+abbrev pub topmost : {C : Type 0} → CellKind → ℕ → Option Rectangle → List C → Sheet C
 topmost k w f cs = framed f (turned k (whole_rows w cs))
 
 abbrev pub pile : Job → Sheet ℕ

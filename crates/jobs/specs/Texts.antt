@@ -17,6 +17,7 @@ use Rattle.strips.specs.declared.kind.CellKind.{CellKind}
 use Rattle.strips.specs.declared.kind.CellKind.TheVariants as kinds
 use Rattle.jobs.specs.Faults.{number, word, layer, layer_name}
 use Rattle.jobs.specs.declared.fault.JobFault.{JobFault}
+use Rattle.jobs.specs.declared.fault.JobFault.TheVariants as faults
 use Rattle.jobs.specs.declared.line.Line.{Line}
 use Rattle.jobs.specs.declared.line.Line.TheVariants.{Refused, Sheet, Mask, Call, Cells}
 
@@ -54,7 +55,7 @@ line_text (Refused f) = refused_text (layer_name (layer f)) f
 line_text (Sheet k s) = codes "sheet " ++ kind_name k ++ codes " " ++ decimal s.width ++ codes " " ++ decimal s.height
 line_text (Mask p c) = codes "mask " ++ decimal p ++ codes " chords " ++ decimal c
 line_text (Call q (Ok n)) = filter_name q ++ codes " " ++ decimal n
-line_text (Call q (Err f)) = refused_text (filter_name q) f
+line_text (Call q (Err r)) = refused_text (filter_name q) (faults.Worksheet r)
 line_text (Cells k r) = row_text k r
 
 abbrev pub text : List Line → List ℕ

@@ -3,6 +3,7 @@ ghost use Rattle.std.specs.Prelude.{◌≡◌};
 
 use crate::fault::JobFault;
 use morphology::call::Filter;
+use morphology::refusal::Refusal;
 use sheets::holder::Size;
 use std::marker::Model;
 use strips::kind::CellKind;
@@ -47,7 +48,7 @@ pub enum Line {
     // A mask is laid: how many points and chords it has.
     Mask { points: usize, chords: usize },
     // A filter was called: its picks, or why it did not go ahead.
-    Call(Filter, Result<u64, JobFault>),
+    Call(Filter, Result<u64, Refusal>),
     // A row of the topmost sheet.
     Cells(CellKind, Row),
 }

@@ -3,10 +3,8 @@
 ghost use Rattle.std.specs.Prelude.{◌≡◌, ◌++◌, length, IfOk};
 ghost use Rattle.masks.specs.Chords.{chords};
 ghost use Rattle.masks.specs.Rows.{points};
-ghost use Rattle.morphology.specs.Calls.{answered, after};
-ghost use Rattle.morphology.specs.declared.call.Call.TheVariants.{Apply};
 ghost use Rattle.worksheets.specs.Performed.{state};
-ghost use Rattle.jobs.specs.Listings.{told, line_of, left_by, left, lines, row, rows, Lists};
+ghost use Rattle.jobs.specs.Listings.{line_of, left_by, left, lines, row, rows, Lists};
 
 use crate::act::Act;
 use crate::fault::JobFault;
@@ -15,7 +13,6 @@ use crate::word::Listed;
 use cells::kind::Kind;
 use masks::chord::ChordList;
 use masks::mask::Mask;
-use morphology::call::Filter;
 use sheets::holder::Holder;
 use std::alloc::{AllocError, Global};
 use strips::kind::CellKind;
@@ -94,9 +91,9 @@ where
             worksheet.lay(mask);
             mask_line(&mask)
         }
-        Act::Run(Err(fault)) => Line::Refused(fault),
+        Act::Run(Err(fault)) => Line::Refused(JobFault::from(fault)),
         Act::Filter(filter) => {
-            let answer = call(worksheet, filter, table.cells.as_mut_slice());
+            let answer = worksheet.apply(filter, table.cells.as_mut_slice());
             Line::Call(filter, answer)
         }
     }
@@ -111,21 +108,6 @@ fn mask_line(mask: &Mask) -> Line
         points: mask.count(),
         chords: chords.as_slice().len(),
     }
-}
-
-// Calls the filter, and answers its picks or why it does not go ahead.
-fn call<H>(
-    worksheet: &mut Worksheet<H>,
-    filter: Filter,
-    table: &mut [H::Cell],
-) -> Result<u64, JobFault>
-where
-    H: Holder,
-    H::Cell: Listed,
-    ensures answer { result ≡ told (answered filter (length table.old) (state H.Cell.Kind.means H.Holder.sheet worksheet.old)) }
-    ensures after { state H.Cell.Kind.means H.Holder.sheet worksheet.new ≡ after H.Cell.Kind.lattice (Apply filter (length table.old)) (state H.Cell.Kind.means H.Holder.sheet worksheet.old) }
-{
-    Ok(worksheet.apply(filter, table)?)
 }
 
 // Puts the rows of the sheet behind the lines that are there, the northmost first.

@@ -1,5 +1,5 @@
 // The listing of a strip.
-ghost use Rattle.std.specs.Prelude.{◌≡◌, [], ◌∷◌, map, Ok, IfOk, IfErr, string_bytes};
+ghost use Rattle.std.specs.Prelude.{◌≡◌, [], ◌∷◌, map, IfOk, string_bytes};
 ghost use Rattle.strips.specs.Reading.{reading};
 ghost use Rattle.strips.specs.Views.{job_of};
 ghost use Rattle.jobs.specs.Piles.{turned, framed};
@@ -21,7 +21,7 @@ use cells::words::WordForm;
 use sheets::holder::Holder;
 use sheets::rows::Rows;
 use sheets::south_up::SouthUp;
-use sheets::window::{Rectangle, Window};
+use sheets::window::Window;
 use std::alloc::{AllocError, Global};
 use strips::job::{JobStrip, read};
 use strips::kind::CellKind;
@@ -30,9 +30,9 @@ use strips::kind::CellKind;
 pub fn run(heap: Global, bytes: &[u8]) -> Result<Vec<Line>, AllocError>
     ensures { IfOk result (λ v. v.items ≡ listing (reading bytes.now)) }
 {
-    match read_job(bytes) {
+    match read(bytes) {
         Ok(job) => list(heap, &job),
-        Err(fault) => refusal(heap, fault),
+        Err(fault) => refusal(heap, JobFault::from(fault)),
     }
 }
 
@@ -42,15 +42,6 @@ pub fn run_to_text(heap: Global, bytes: &[u8]) -> Result<String, AllocError>
 {
     let lines = run(heap, bytes)?;
     text(heap, lines.as_slice())
-}
-
-// The job that the strip tells, or why it tells none.
-fn read_job(bytes: &[u8]) -> Result<JobStrip<'_>, JobFault>
-    ensures found { IfOk result (λ s. reading bytes.now ≡ Ok (job_of s)) }
-    ensures refused { IfErr result (λ f. listing (reading bytes.now) ≡ Line.Refused f ∷ []) }
-{
-    let job = read(bytes)?;
-    Ok(job)
 }
 
 // The one line of a strip that is refused.
@@ -67,66 +58,59 @@ fn list(heap: Global, job: &JobStrip<'_>) -> Result<Vec<Line>, AllocError>
     ensures { IfOk result (λ v. v.items ≡ listed (job_of job.now)) }
 {
     let acts = acts_of(heap, job)?;
+    let acts = acts.as_slice();
+    let planned = Planned { heap, job, acts };
     match job.kind() {
-        CellKind::Gray => list_as::<Gray>(heap, job, acts.as_slice()),
-        CellKind::Height => list_as::<Height>(heap, job, acts.as_slice()),
-        CellKind::Flags => list_as::<Flags>(heap, job, acts.as_slice()),
-        CellKind::Return => list_as::<ReturnBits>(heap, job, acts.as_slice()),
+        CellKind::Gray => planned.list_as::<Gray>(),
+        CellKind::Height => planned.list_as::<Height>(),
+        CellKind::Flags => planned.list_as::<Flags>(),
+        CellKind::Return => planned.list_as::<ReturnBits>(),
     }
 }
 
-// The listing of the acts on the topmost of a job, in a kind of cell.
-fn list_as<K: Listed + Drop>(
+// A job with its acts, and the heap for its lines.
+#[derive(Clone, Copy)]
+struct Planned<'a> {
     heap: Global,
-    job: &JobStrip<'_>,
-    acts: &[Act],
-) -> Result<Vec<Line>, AllocError>
-    ensures { IfOk result (λ v. ListsJob K.Kind.lattice K.Kind.means K.WordForm.reads K.Listed.listed acts.now (job_of job.now) v.items) }
-{
-    let mut cells = cells_of::<K>(heap, job)?;
-    let rows = Rows::new(job.width() as usize, cells.as_mut_slice());
-    list_turned(heap, job, rows, acts)
+    job: &'a JobStrip<'a>,
+    acts: &'a [Act],
 }
 
-// The listing of the acts on the topmost over a pile: south-up where the job is of heights, and the window.
-fn list_turned<H>(
-    heap: Global,
-    job: &JobStrip<'_>,
-    pile: H,
-    acts: &[Act],
-) -> Result<Vec<Line>, AllocError>
-where
-    H: Holder + Drop,
-    H::Cell: Listed + Drop,
-    ensures { IfOk result (λ v. Lists H.Cell.Kind.lattice H.Cell.Kind.means H.Cell.Listed.listed (job_of job.now).kind acts.now (framed (job_of job.now).window (turned (job_of job.now).kind (H.Holder.sheet pile))) v.items) }
-{
-    match job.kind() {
-        CellKind::Height => list_framed(heap, job, SouthUp::new(pile), acts),
-        CellKind::Gray | CellKind::Flags | CellKind::Return => {
-            list_framed(heap, job, pile, acts)
+impl Planned<'_> {
+    // The listing of the acts on the topmost of the job, in a kind of cell.
+    fn list_as<K: Listed + Drop>(&self) -> Result<Vec<Line>, AllocError>
+        ensures { IfOk result (λ v. ListsJob K.Kind.lattice K.Kind.means K.WordForm.reads K.Listed.listed self.now.acts.now (job_of self.now.job.now) v.items) }
+    {
+        let mut cells = cells_of::<K>(self.heap, self.job)?;
+        let rows = Rows::new(self.job.width() as usize, cells.as_mut_slice());
+        self.list_turned(rows)
+    }
+
+    // The listing of the acts on the topmost over a pile: south-up where the job is of heights, and the window.
+    fn list_turned<H>(&self, pile: H) -> Result<Vec<Line>, AllocError>
+    where
+        H: Holder + Drop,
+        H::Cell: Listed + Drop,
+        ensures { IfOk result (λ v. Lists H.Cell.Kind.lattice H.Cell.Kind.means H.Cell.Listed.listed (job_of self.now.job.now).kind self.now.acts.now (framed (job_of self.now.job.now).window (turned (job_of self.now.job.now).kind (H.Holder.sheet pile))) v.items) }
+    {
+        match self.job.kind() {
+            CellKind::Height => self.list_framed(SouthUp::new(pile)),
+            CellKind::Gray | CellKind::Flags | CellKind::Return => self.list_framed(pile),
         }
     }
-}
 
-// The listing of the acts on the window of a pile, or on the pile.
-fn list_framed<H>(
-    heap: Global,
-    job: &JobStrip<'_>,
-    pile: H,
-    acts: &[Act],
-) -> Result<Vec<Line>, AllocError>
-where
-    H: Holder + Drop,
-    H::Cell: Listed + Drop,
-    ensures { IfOk result (λ v. Lists H.Cell.Kind.lattice H.Cell.Kind.means H.Cell.Listed.listed (job_of job.now).kind acts.now (framed (job_of job.now).window (H.Holder.sheet pile)) v.items) }
-{
-    let kind = job.kind();
-    match job.window() {
-        Some(frame) => {
-            let asked = Rectangle::from(frame);
-            perform(heap, kind, Window::new(pile, asked), acts)
+    // The listing of the acts on the window of a pile, or on the pile.
+    fn list_framed<H>(&self, pile: H) -> Result<Vec<Line>, AllocError>
+    where
+        H: Holder + Drop,
+        H::Cell: Listed + Drop,
+        ensures { IfOk result (λ v. Lists H.Cell.Kind.lattice H.Cell.Kind.means H.Cell.Listed.listed (job_of self.now.job.now).kind self.now.acts.now (framed (job_of self.now.job.now).window (H.Holder.sheet pile)) v.items) }
+    {
+        let Planned { heap, job, acts } = *self;
+        match job.window() {
+            Some(asked) => perform(heap, job.kind(), Window::new(pile, asked), acts),
+            None => perform(heap, job.kind(), pile, acts),
         }
-        None => perform(heap, kind, pile, acts),
     }
 }
 

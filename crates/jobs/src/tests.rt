@@ -6,7 +6,7 @@ use masks::fault::MaskFault;
 use morphology::refusal::Refusal;
 use std::alloc::{AllocError, Global};
 use std::test::Fail;
-use strips::fault::StripFault;
+use strips::fault::{Ground, StripFault};
 
 // A gray sheet of 3 by 1, 7 9 4, a call to open it, the end, and single points.
 const HEAD: u32 = 0x1100_3001;
@@ -181,7 +181,7 @@ fn a_refused_strip_has_one_line(rt: HostRuntime) -> Result<(), Fail> {
 
 #[test]
 fn a_fault_has_number_layer_and_word(rt: HostRuntime) {
-    let strip = JobFault::Strip(StripFault::NoCell(5));
+    let strip = JobFault::Strip(StripFault::At(Ground::NoCell, 5));
     assert_eq!(rt; strip.number(), 6);
     assert_eq!(rt; strip.layer(), Layer::Strip);
     assert_eq!(rt; strip.word(), Some(5));

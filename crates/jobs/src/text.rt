@@ -1,7 +1,6 @@
 // A listing as text.
 ghost use Rattle.std.specs.Prelude.{◌≡◌, IfOk, Some, string_bytes};
-ghost use Rattle.std.specs.Fmt.{WritesOnOk};
-ghost use Rattle.jobs.specs.Texts.{cell_text, rest_text, row_text, why_text, line_text, text};
+ghost use Rattle.jobs.specs.Texts.{cell_text, row_text, why_text, line_text, text};
 
 use crate::fault::JobFault;
 use crate::line::Line;
@@ -28,69 +27,92 @@ impl fmt::Display for Line {
         match self {
             Line::Refused(fault) => {
                 let layer = fault.layer();
-                write!(f, "{layer}")?;
-                show_why(*fault, f)
+                let why = Why(*fault);
+                write!(f, "{layer}{why}")
             }
             Line::Sheet { kind, size } => {
                 write!(f, "sheet {kind} {} {}", size.width, size.height)
             }
             Line::Mask { points, chords } => write!(f, "mask {points} chords {chords}"),
             Line::Call(filter, Ok(picks)) => write!(f, "{filter} {picks}"),
-            Line::Call(filter, Err(fault)) => {
-                write!(f, "{filter}")?;
-                show_why(*fault, f)
+            Line::Call(filter, Err(refusal)) => {
+                let why = Why(JobFault::from(*refusal));
+                write!(f, "{filter}{why}")
             }
-            Line::Cells(kind, row) => show_row(*kind, row.words(), f),
+            Line::Cells(kind, row) => {
+                let row = ToldRow {
+                    kind: *kind,
+                    words: row.words(),
+                };
+                write!(f, "{row}")
+            }
         }
     }
 }
 
-// That it was refused, the number, and the word that it is told with.
-fn show_why<W: fmt::Write>(fault: JobFault, f: &mut fmt::Formatter<W>) -> fmt::Result
-    ensures { WritesOnOk W.write_str_gives f.old result (why_text fault) f.new }
-{
-    let number = fault.number();
-    match fault.word() {
-        Some(word) => write!(f, " refused {number} word {word}"),
-        None => write!(f, " refused {number}"),
-    }
-}
+// That something was refused, the number, and the word that it is told with.
+#[derive(Clone, Copy)]
+struct Why(JobFault);
 
-// The cells of a row, with a blank between two.
-fn show_row<W: fmt::Write>(kind: CellKind, words: &[u32], f: &mut fmt::Formatter<W>) -> fmt::Result
-    ensures { WritesOnOk W.write_str_gives f.old result (row_text kind words.now) f.new }
-{
-    match words.split_first() {
-        Some((first, rest)) => {
-            show_word(kind, *first, f)?;
-            show_rest(kind, rest, f)
+impl fmt::Display for Why {
+    ghost output = { λ w. Some (why_text w.0) };
+
+    fn fmt<W: fmt::Write>(&self, f: &mut fmt::Formatter<W>) -> fmt::Result {
+        let number = self.0.number();
+        match self.0.word() {
+            Some(word) => write!(f, " refused {number} word {word}"),
+            None => write!(f, " refused {number}"),
         }
-        None => Ok(()),
     }
 }
 
-// Cells, with a blank before each.
-fn show_rest<W: fmt::Write>(kind: CellKind, words: &[u32], f: &mut fmt::Formatter<W>) -> fmt::Result
-    ensures { WritesOnOk W.write_str_gives f.old result (rest_text kind words.now) f.new }
-{
-    for word in words {
-        write!(f, " ")?;
-        show_word(kind, *word, f)?;
-    }
-    Ok(())
+// The cells of a row by their words.
+#[derive(Clone, Copy)]
+struct ToldRow<'a> {
+    kind: CellKind,
+    words: &'a [u32],
 }
 
-// A cell by its word: a number, of heights with its sign, or the eight digits of a return's bits.
-fn show_word<W: fmt::Write>(kind: CellKind, word: u32, f: &mut fmt::Formatter<W>) -> fmt::Result
-    ensures { WritesOnOk W.write_str_gives f.old result (cell_text kind word) f.new }
-{
-    match kind {
-        CellKind::Gray => write!(f, "{word}"),
-        CellKind::Height => {
-            let height = word.cast_signed();
-            write!(f, "{height}")
+// A blank stands between two of them.
+impl fmt::Display for ToldRow<'_> {
+    ghost output = { λ r. Some (row_text r.kind r.words.now) };
+
+    fn fmt<W: fmt::Write>(&self, f: &mut fmt::Formatter<W>) -> fmt::Result {
+        let kind = self.kind;
+        let Some((first, rest)) = self.words.split_first() else {
+            return Ok(());
+        };
+        let cell = ToldCell { kind, word: *first };
+        write!(f, "{cell}")?;
+        for word in rest {
+            let cell = ToldCell { kind, word: *word };
+            write!(f, " {cell}")?;
         }
-        CellKind::Flags => write!(f, "{word}"),
-        CellKind::Return => write!(f, "{word:08X}"),
+        Ok(())
+    }
+}
+
+// A cell by its word.
+#[derive(Clone, Copy)]
+struct ToldCell {
+    kind: CellKind,
+    word: u32,
+}
+
+// A number, of heights with its sign, or the eight digits of a return's bits.
+impl fmt::Display for ToldCell {
+    ghost output = { λ c. Some (cell_text c.kind c.word) };
+
+    fn fmt<W: fmt::Write>(&self, f: &mut fmt::Formatter<W>) -> fmt::Result {
+        let word = self.word;
+        match self.kind {
+            CellKind::Gray => write!(f, "{word}"),
+            CellKind::Height => {
+                let height = word.cast_signed();
+                write!(f, "{height}")
+            }
+            CellKind::Flags => write!(f, "{word}"),
+            CellKind::Return => write!(f, "{word:08X}"),
+        }
     }
 }

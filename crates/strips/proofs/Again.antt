@@ -13,11 +13,12 @@ use Rattle.strips.specs.declared.kind.CellKind.{CellKind}
 use Rattle.strips.specs.declared.item.Item.{Item}
 use Rattle.strips.specs.declared.item.Item.TheVariants.{Head, Cells, Point, Call, End}
 use Rattle.strips.specs.declared.parts.Shape.{Shape}
-use Rattle.strips.specs.declared.parts.Frame.{Frame}
+use Rattle.sheets.specs.declared.window.Rectangle.{Rectangle}
 use Rattle.strips.specs.declared.parts.Step.{Step}
 use Rattle.strips.specs.declared.parts.Step.TheVariants as steps
 use Rattle.strips.specs.declared.fault.StripFault.{StripFault}
-use Rattle.strips.specs.declared.fault.StripFault.TheVariants.{NoCell, WrongCount}
+use Rattle.strips.specs.declared.fault.StripFault.TheVariants.{At}
+use Rattle.strips.specs.declared.fault.Ground.TheVariants.{NoCell, WrongCount}
 use Rattle.strips.proofs.Items.{item_again, filter_below}
 use Rattle.strips.proofs.Loops.{beside, step_at, steps_first}
 use Rattle.strips.proofs.Taken.{framed}
@@ -46,14 +47,14 @@ pub count_again : (n i : ℕ) (ws : List ℕ) → n < 2 ^ 28 → count_due n (fr
 unfolding count_due
 count_again n i ws lt =
     part_again (count_of n i) i (Cells n) ws n lt
-    (ap (λ (b : Bool). cond b (Ok n) (Err (WrongCount i))) (eq-eqb n n refl))
+    (ap (λ (b : Bool). cond b (Ok n) (Err (At WrongCount i))) (eq-eqb n n refl))
 
 -- ---- the raw words
 
 cell_again : (k : CellKind) (i w : ℕ) (ws : List ℕ) → is_cell k w ≡ true → cell_due k (from i (w ∷ ws)) ≡ Ok (w, from (i + 1) ws)
 unfolding cell_due word_due
 cell_again k i w ws e =
-    ap (λ (b : Bool). ◌>>=◌ {A = ℕ} (cond b (Ok w) (Err (NoCell i))) (beside (from (i + 1) ws))) e
+    ap (λ (b : Bool). ◌>>=◌ {A = ℕ} (cond b (Ok w) (Err (At NoCell i))) (beside (from (i + 1) ws))) e
 
 pub raws_again : (k : CellKind) (rs ws : List ℕ) (i j : ℕ) → AllByRecursion (IsRaw k) rs → j ≡ i + length rs → raws_due k (length rs) (from i (rs ++ ws)) ≡ Ok (from j ws)
 unfolding raws_due
@@ -65,42 +66,42 @@ raws_again k (r ∷ rs) ws i j fits e =
 
 -- ---- the window
 
-frame_again : (f : Frame) (i : ℕ) (ws : List ℕ) → Fits (corner f) → Fits (extent f) → frame_due (from i (window_words (Some f) ++ ws)) ≡ Ok (f, from (i + 1 + 1) ws)
+frame_again : (f : Rectangle) (i : ℕ) (ws : List ℕ) → Fits (corner f) → Fits (extent f) → frame_due (from i (window_words (Some f) ++ ws)) ≡ Ok (f, from (i + 1 + 1) ws)
 unfolding frame_due
 frame_again f i ws hc he =
-    let fourth : ℕ × ℕ → Item × Left → ℕ × ℕ → Result (Frame × Left) StripFault = λ c y z. Ok (framed c z, y.1) in
-    let third : Left → ℕ × ℕ → Item × Left → Result (Frame × Left) StripFault = λ x c y. extent_of x.place y.0 >>= fourth c y in
-    let second : Left → ℕ × ℕ → Result (Frame × Left) StripFault = λ x c. item_due x >>= third x c in
-    let first : Item × Left → Result (Frame × Left) StripFault = λ x. corner_of i x.0 >>= second x.1 in
+    let fourth : ℕ × ℕ → Item × Left → ℕ × ℕ → Result (Rectangle × Left) StripFault = λ c y z. Ok (framed c z, y.1) in
+    let third : Left → ℕ × ℕ → Item × Left → Result (Rectangle × Left) StripFault = λ x c y. extent_of x.place y.0 >>= fourth c y in
+    let second : Left → ℕ × ℕ → Result (Rectangle × Left) StripFault = λ x c. item_due x >>= third x c in
+    let first : Item × Left → Result (Rectangle × Left) StripFault = λ x. corner_of i x.0 >>= second x.1 in
     let rest = item_word (extent f) ∷ ws in
     ap (λ (r : Result (Item × Left) StripFault). r >>= first) (item_due_again i (corner f) rest hc)
-    ∙ ap (λ (r : Result (Item × Left) StripFault). r >>= third (from (i + 1) rest) (f.column, f.row)) (item_due_again (i + 1) (extent f) ws he)
+    ∙ ap (λ (r : Result (Item × Left) StripFault). r >>= third (from (i + 1) rest) (f.left, f.top)) (item_due_again (i + 1) (extent f) ws he)
 
-begins_corner : (f : Frame) (ws : List ℕ) → Fits (corner f) → begins (item_word (corner f) ∷ ws) ≡ true
+begins_corner : (f : Rectangle) (ws : List ℕ) → Fits (corner f) → begins (item_word (corner f) ∷ ws) ≡ true
 begins_corner f ws fits =
-    let e : (3 * 2 ^ 28 + f.column * 2 ^ 12 + f.row) / 2 ^ 28 ≡ 3 = omega (arith, fits.0, fits.1) in
+    let e : (3 * 2 ^ 28 + f.left * 2 ^ 12 + f.top) / 2 ^ 28 ≡ 3 = omega (arith, fits.0, fits.1) in
     rw e refl
 
-pub window_again : (f : Option Frame) (ws : List ℕ) (i j : ℕ) → IfSome f (λ g. Fits (corner g) × Fits (extent g)) → begins ws ≡ false → j ≡ i + length (window_words f) → window_due (from i (window_words f ++ ws)) ≡ Ok (f, from j ws)
+pub window_again : (f : Option Rectangle) (ws : List ℕ) (i j : ℕ) → IfSome f (λ g. Fits (corner g) × Fits (extent g)) → begins ws ≡ false → j ≡ i + length (window_words f) → window_due (from i (window_words f ++ ws)) ≡ Ok (f, from j ws)
 unfolding window_due
 window_again None ws i j fits none e = rw none (ap (λ (n : ℕ). Ok (None, from n ws)) (omega arith))
 window_again (Some f) ws i j fits none e =
-    let some : Frame × Left → Result (Option Frame × Left) StripFault = λ g. Ok (Some g.0, g.1) in
+    let some : Rectangle × Left → Result (Option Rectangle × Left) StripFault = λ g. Ok (Some g.0, g.1) in
     let p : i + 1 + 1 ≡ j = omega arith in
     rw (begins_corner f (item_word (extent f) ∷ ws) fits.0)
-    (ap (λ (r : Result (Frame × Left) StripFault). r >>= some) (frame_again f i ws fits.0 fits.1) ∙ ap (λ (n : ℕ). Ok (Some f, from n ws)) p)
+    (ap (λ (r : Result (Rectangle × Left) StripFault). r >>= some) (frame_again f i ws fits.0 fits.1) ∙ ap (λ (n : ℕ). Ok (Some f, from n ws)) p)
 
 -- ---- the steps
 
 step_again : (i : ℕ) (s : Step) → Fits (step_item s) → step_at i (item_word (step_item s)) ≡ Ok true
-step_again i (steps.Point u v) fits = rw (item_again (Point u v) fits) refl
+step_again i (steps.Point p) fits = rw (item_again (Point p) fits) refl
 step_again i (steps.Call q) fits = rw (item_again (Call q) fits) refl
 
 end_again : (i : ℕ) → step_at i (item_word End) ≡ Ok false
 end_again i = rw (item_again End tt) refl
 
 step_back : (s : Step) → Fits (step_item s) → step_of (item_word (step_item s)) ≡ s
-step_back (steps.Point u v) fits = rw (item_again (Point u v) fits) refl
+step_back (steps.Point p) fits = rw (item_again (Point p) fits) refl
 step_back (steps.Call q) fits = rw (item_again (Call q) fits) refl
 
 pub steps_again : (ss : List Step) (ws : List ℕ) (i j : ℕ) → AllByRecursion (λ s. Fits (step_item s)) ss → j ≡ i + length ss + 1 → steps_from i (step_words ss ++ item_word End ∷ ws) ≡ Ok (length ss, from j ws)
@@ -127,8 +128,8 @@ steps_back (s ∷ ss) ws fits =
 -- no corner begins a step, or the end
 pub begins_steps : (ss : List Step) (ws : List ℕ) → AllByRecursion (λ s. Fits (step_item s)) ss → begins (step_words ss ++ item_word End ∷ ws) ≡ false
 begins_steps [] ws fits = refl
-begins_steps (steps.Point u v ∷ ss) ws fits =
-    let e : (5 * 2 ^ 28 + u * 2 ^ 5 + v) / 2 ^ 28 ≡ 5 = omega (arith, fits.0.0, fits.0.1) in
+begins_steps (steps.Point p ∷ ss) ws fits =
+    let e : (5 * 2 ^ 28 + p.u * 2 ^ 5 + p.v) / 2 ^ 28 ≡ 5 = omega (arith, fits.0.0, fits.0.1) in
     rw e refl
 begins_steps (steps.Call q ∷ ss) ws fits =
     let e : (6 * 2 ^ 28 + filter_number q) / 2 ^ 28 ≡ 6 = omega (arith, filter_below q) in
@@ -155,9 +156,9 @@ job_again j t =
     let p3 = 2 + length j.raws in
     let p4 = p3 + length (window_words j.window) in
     let p5 = p4 + length j.steps + 1 in
-    let sixth : Shape → ℕ × Left → Option Frame × Left → ℕ × Left → Left → Result Job StripFault = λ s c f k x. Ok (made s c.0 c.1.words f.0 k.0 f.1.words) in
-    let fifth : Shape → ℕ × Left → Option Frame × Left → ℕ × Left → Result Job StripFault = λ s c f k. ended 0 k.1 >>= sixth s c f k in
-    let fourth : Shape → ℕ × Left → Option Frame × Left → Result Job StripFault = λ s c f. steps_due f.1 >>= fifth s c f in
+    let sixth : Shape → ℕ × Left → Option Rectangle × Left → ℕ × Left → Left → Result Job StripFault = λ s c f k x. Ok (made s c.0 c.1.words f.0 k.0 f.1.words) in
+    let fifth : Shape → ℕ × Left → Option Rectangle × Left → ℕ × Left → Result Job StripFault = λ s c f k. ended 0 k.1 >>= sixth s c f k in
+    let fourth : Shape → ℕ × Left → Option Rectangle × Left → Result Job StripFault = λ s c f. steps_due f.1 >>= fifth s c f in
     let third : Shape → ℕ × Left → Left → Result Job StripFault = λ s c r. window_due r >>= fourth s c in
     let second : Shape → ℕ × Left → Result Job StripFault = λ s c. raws_due s.kind c.0 c.1 >>= third s c in
     let first : Shape × Left → Result Job StripFault = λ s. count_due (s.0.width * s.0.height) s.1 >>= second s.0 in
@@ -168,7 +169,7 @@ job_again j t =
     ap (λ (r : Result (Shape × Left) StripFault). r >>= first) (shape_again s ws1 t.head)
     ∙ ap (λ (r : Result (ℕ × Left) StripFault). r >>= second s) (count_again n 1 ws2 few)
     ∙ ap (λ (r : Result Left StripFault). r >>= third s (n, from 2 ws2)) raws
-    ∙ ap (λ (r : Result (Option Frame × Left) StripFault). r >>= fourth s (n, from 2 ws2)) (window_again j.window ws4 p3 p4 t.window (begins_steps j.steps [] t.steps) refl)
+    ∙ ap (λ (r : Result (Option Rectangle × Left) StripFault). r >>= fourth s (n, from 2 ws2)) (window_again j.window ws4 p3 p4 t.window (begins_steps j.steps [] t.steps) refl)
     ∙ ap (λ (r : Result (ℕ × Left) StripFault). r >>= fifth s (n, from 2 ws2) (j.window, from p4 ws4)) (steps_again j.steps [] p4 p5 t.steps refl)
     ∙ ap (λ (rs : List ℕ). Ok (done rs (map step_of (take (length j.steps) ws4)))) cells
     ∙ ap (λ (ss : List Step). Ok (done j.raws ss)) (steps_back j.steps (item_word End ∷ []) t.steps)

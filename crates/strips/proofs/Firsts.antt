@@ -17,11 +17,12 @@ use Rattle.strips.specs.declared.kind.CellKind.TheVariants.{Gray, Height, Flags,
 use Rattle.strips.specs.declared.item.Item.{Item}
 use Rattle.strips.specs.declared.item.Item.TheVariants.{Head, Cells, Corner, End}
 use Rattle.strips.specs.declared.parts.Shape.{Shape}
-use Rattle.strips.specs.declared.parts.Frame.{Frame}
+use Rattle.sheets.specs.declared.window.Rectangle.{Rectangle}
 use Rattle.strips.specs.declared.parts.Step.{Step}
 use Rattle.strips.specs.declared.job.JobStrip.{JobStrip}
 use Rattle.strips.specs.declared.fault.StripFault.{StripFault}
-use Rattle.strips.specs.declared.fault.StripFault.TheVariants.{TooLong, CutShort, OutOfOrder, NoCell}
+use Rattle.strips.specs.declared.fault.StripFault.TheVariants.{TooLong, At}
+use Rattle.strips.specs.declared.fault.Ground.TheVariants.{CutShort, OutOfOrder, NoCell}
 use Rattle.strips.proofs.Items.{chosen}
 use Rattle.strips.proofs.Shapes.{bind_ok, ok_is, said_is}
 use Rattle.strips.proofs.Loops.{beside, step_at, steps_first, steps_none}
@@ -46,11 +47,11 @@ ended_first n k i (w ∷ ws) (u ∷ us) f e same = e
 
 pub ended_at : (n i : ℕ) (ws : List ℕ) (f : StripFault) → ended n (from i ws) ≡ Err f → told_word f ≡ i
 ended_at n i [] f e =
-    elim (chosen (n == 0) (Ok (from i [])) (Err (OutOfOrder i)) (Err f) e) [
+    elim (chosen (n == 0) (Ok (from i [])) (Err (At OutOfOrder i)) (Err f) e) [
       | inl p ↦ absurd (let q = p.1 in cc)
-      | inr p ↦ sym (ap told_word (err_is {A = Left} (OutOfOrder i) f p.1))
+      | inr p ↦ sym (ap told_word (err_is {A = Left} (At OutOfOrder i) f p.1))
     ]
-ended_at n i (w ∷ ws) f e = sym (ap told_word (err_is {A = Left} (OutOfOrder i) f e))
+ended_at n i (w ∷ ws) f e = sym (ap told_word (err_is {A = Left} (At OutOfOrder i) f e))
 
 -- it cannot have passed and been refused at once
 refused_end : (k : ℕ) (m x l : Left) (f : StripFault) (r : Result (Unit {0} × Left) StripFault) → r ≡ Ok (tt, m) → r ≡ Ok (tt, l) → ended k m ≡ Ok x → ended k l ≡ Err f → ⊥
@@ -123,7 +124,7 @@ begun i ws front rest more j sound split len e = record {
 }
 
 -- a job of a head, raw words, a window and steps
-abbrev assembled : Shape → List ℕ → Option Frame → List Step → Job
+abbrev assembled : Shape → List ℕ → Option Rectangle → List Step → Job
 assembled s rs f ss = record { kind = s.kind; width = s.width; height = s.height; raws = rs; window = f; steps = ss }
 
 abbrev pub head_word : Shape → ℕ
@@ -167,11 +168,11 @@ pub record SomeRaws (k : CellKind) (n i : ℕ) (ws : List ℕ) (f : StripFault) 
 -- a missing raw word, and a wrong one
 cell_short : (k : CellKind) (i : ℕ) (f : StripFault) → cell_due k (from i []) ≡ Err f → number f ≡ 2
 unfolding cell_due word_due
-cell_short k i f e = sym (ap number (err_is {A = ℕ × Left} (CutShort i) f e))
+cell_short k i f e = sym (ap number (err_is {A = ℕ × Left} (At CutShort i) f e))
 
-wrong_by : (b : Bool) (i w : ℕ) (m : Left) (f : StripFault) → (cond b (Ok w) (Err (NoCell i)) >>= beside m) ≡ Err f → number f ≡ 6
+wrong_by : (b : Bool) (i w : ℕ) (m : Left) (f : StripFault) → (cond b (Ok w) (Err (At NoCell i)) >>= beside m) ≡ Err f → number f ≡ 6
 wrong_by true i w m f e = absurd cc
-wrong_by false i w m f e = sym (ap number (err_is {A = ℕ × Left} (NoCell i) f e))
+wrong_by false i w m f e = sym (ap number (err_is {A = ℕ × Left} (At NoCell i) f e))
 
 cell_wrong : (k : CellKind) (i w : ℕ) (ws : List ℕ) (f : StripFault) → cell_due k (from i (w ∷ ws)) ≡ Err f → number f ≡ 6
 unfolding cell_due word_due
@@ -236,7 +237,7 @@ Stops i ws f = (corner_part (from i ws) ≡ Err f) ⊎ ((c : ℕ × ℕ) × (res
 
 frame_stop : (i : ℕ) (ws : List ℕ) (f : StripFault) → frame_due (from i ws) ≡ Err f → Stops i ws f
 frame_stop i ws f e =
-    let goes : (ℕ × ℕ) × Left → Result (Frame × Left) StripFault = λ c. extent_part c.0 c.1 in
+    let goes : (ℕ × ℕ) × Left → Result (Rectangle × Left) StripFault = λ c. extent_part c.0 c.1 in
     elim (bind_err (corner_part (from i ws)) goes f (sym (frame_parts i ws) ∙ e)) [
       | inl h ↦ inl h
       | inr h ↦ inr (
@@ -249,8 +250,8 @@ frame_stop i ws f e =
 pub window_stop : (i : ℕ) (ws : List ℕ) (f : StripFault) → window_due (from i ws) ≡ Err f → Stops i ws f
 unfolding window_due
 window_stop i ws f e =
-    let some : Frame × Left → Result (Option Frame × Left) StripFault = λ g. Ok (Some g.0, g.1) in
-    let none : Option Frame × Left = (None, from i ws) in
+    let some : Rectangle × Left → Result (Option Rectangle × Left) StripFault = λ g. Ok (Some g.0, g.1) in
+    let none : Option Rectangle × Left = (None, from i ws) in
     elim (chosen (begins ws) (frame_due (from i ws) >>= some) (Ok none) (Err f) e) [
       | inl p ↦ elim (bind_err (frame_due (from i ws)) some f p.1) [
         | inl h ↦ frame_stop i ws f h
@@ -268,7 +269,7 @@ at_window ws s rs m p =
 at_extent : (ws : List ℕ) (s : Shape) (rs : List ℕ) (m : Left) (c : ℕ × ℕ) (rest : List ℕ) → Passed ws s rs m → m.words ≡ item_word (Corner c.0 c.1) ∷ rest → Fits (Corner c.0 c.1) → Begins (m.place + 1) ws
 unfolding job_words
 at_extent ws s rs m c rest p e fits =
-    let g : Frame = record { column = c.0; row = c.1; width = 0; height = 0 } in
+    let g : Rectangle = record { left = c.0; top = c.1; size = record { width = 0; height = 0 } } in
     let cw = item_word (Corner c.0 c.1) in
     let front = (head_word s ∷ count_word s ∷ rs) ++ (cw ∷ []) in
     begun (m.place + 1) ws front rest (item_word (extent g) ∷ end_words) (assembled s rs (Some g) []) (record { head = p.fits; count = p.count; raws = p.raws; window = (fits, (lit< tt, lit< tt)); steps = tt })
@@ -305,7 +306,7 @@ steps_stop_by i w ws f false s e more = absurd cc
 
 pub steps_stop : (i : ℕ) (ws : List ℕ) (f : StripFault) → steps_from i ws ≡ Err f → SomeSteps i ws f
 steps_stop i [] f e =
-    let here : CutShort i ≡ f = err_is {A = ℕ × Left} (CutShort i) f (sym (steps_none i) ∙ e) in
+    let here : At CutShort i ≡ f = err_is {A = ℕ × Left} (At CutShort i) f (sym (steps_none i) ∙ e) in
     record { steps = []; rest = []; split = refl; fits = tt; cause = inl (refl, sym (ap number here)); place = sym (ap told_word here) ∙ (let z : i ≡ i + 0 = omega arith in z) }
 steps_stop i (w ∷ ws) f e =
     let goes : Bool → Result (ℕ × Left) StripFault = λ b. cond b (steps_from (i + 1) ws >>= one_more) (Ok (0, from (i + 1) ws)) in
@@ -315,7 +316,7 @@ steps_stop i (w ∷ ws) f e =
     ]
 
 -- a job's steps up to the refused word
-at_steps : (ws : List ℕ) (s : Shape) (rs : List ℕ) (m : Left) (g : Option Frame) (l : Left) (f : StripFault) → Passed ws s rs m → TheWindow m.place m.words g l → SomeSteps l.place l.words f → Begins (told_word f) ws
+at_steps : (ws : List ℕ) (s : Shape) (rs : List ℕ) (m : Left) (g : Option Rectangle) (l : Left) (f : StripFault) → Passed ws s rs m → TheWindow m.place m.words g l → SomeSteps l.place l.words f → Begins (told_word f) ws
 unfolding job_words
 at_steps ws s rs m g l f p t k =
     let start = head_word s ∷ count_word s ∷ rs in
@@ -328,7 +329,7 @@ at_steps ws s rs m g l f p t k =
     (ap (λ (v : List ℕ). start ++ v) e2 ∙ sym (append_assoc start middle end_words))
 
 -- a whole job, behind which something follows
-pub whole_job : (ws : List ℕ) (s : Shape) (rs : List ℕ) (m : Left) (g : Option Frame) (l : Left) (n : ℕ) (x : Left) → Passed ws s rs m → TheWindow m.place m.words g l → TheSteps l.place l.words n x
+pub whole_job : (ws : List ℕ) (s : Shape) (rs : List ℕ) (m : Left) (g : Option Rectangle) (l : Left) (n : ℕ) (x : Left) → Passed ws s rs m → TheWindow m.place m.words g l → TheSteps l.place l.words n x
     → (j : Job) × Sound j × (ws ≡ job_words j ++ x.words) × (length (job_words j) ≡ x.place)
 unfolding job_words
 whole_job ws s rs m g l n x p t k =

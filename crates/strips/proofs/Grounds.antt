@@ -18,10 +18,11 @@ use Rattle.strips.specs.declared.kind.NoSuchKind.{NoSuchKind}
 use Rattle.strips.specs.declared.item.Item.{Item}
 use Rattle.strips.specs.declared.item.Item.TheVariants.{Head, Cells, Corner, Extent, Point, Call, End}
 use Rattle.strips.specs.declared.parts.Shape.{Shape}
-use Rattle.strips.specs.declared.parts.Frame.{Frame}
+use Rattle.sheets.specs.declared.window.Rectangle.{Rectangle}
 use Rattle.strips.specs.declared.job.JobStrip.{JobStrip}
 use Rattle.strips.specs.declared.fault.StripFault.{StripFault}
-use Rattle.strips.specs.declared.fault.StripFault.TheVariants.{TooLong, NoWord, OutOfOrder, NoKind, WrongCount}
+use Rattle.strips.specs.declared.fault.StripFault.TheVariants.{TooLong, At}
+use Rattle.strips.specs.declared.fault.Ground.TheVariants.{NoWord, OutOfOrder, NoKind, WrongCount}
 use Rattle.strips.proofs.Items.{chosen, item_again}
 use Rattle.strips.proofs.Loops.{step_at}
 use Rattle.strips.proofs.Taken.{AreWords, TheWindow, shape_takes, count_takes, window_takes, steps_take}
@@ -70,15 +71,15 @@ announced_head ws s rest e fits = ap announced e ∙ ap cells_of (item_again (He
 
 -- ---- the number by what a word says
 
-silent : {A : Type 0} (i : ℕ) (f : StripFault) → ◌≡◌ {A = Result A StripFault} (Err (NoWord i)) (Err f) → number f ≡ 3
-silent {A} i f e = sym (ap number (err_is {A = A} (NoWord i) f e))
+silent : {A : Type 0} (i : ℕ) (f : StripFault) → ◌≡◌ {A = Result A StripFault} (Err (At NoWord i)) (Err f) → number f ≡ 3
+silent {A} i f e = sym (ap number (err_is {A = A} (At NoWord i) f e))
 
-misplaced : {A : Type 0} (i : ℕ) (f : StripFault) → ◌≡◌ {A = Result A StripFault} (Err (OutOfOrder i)) (Err f) → number f ≡ 4
-misplaced {A} i f e = sym (ap number (err_is {A = A} (OutOfOrder i) f e))
+misplaced : {A : Type 0} (i : ℕ) (f : StripFault) → ◌≡◌ {A = Result A StripFault} (Err (At OutOfOrder i)) (Err f) → number f ≡ 4
+misplaced {A} i f e = sym (ap number (err_is {A = A} (At OutOfOrder i) f e))
 
 no_kind_number : (k : Result CellKind NoSuchKind) (w h : ℕ) (f : StripFault) → shape_by 0 k w h ≡ Err f → number f ≡ 5
 no_kind_number (Ok k) w h f e = absurd cc
-no_kind_number (Err n) w h f e = sym (ap number (err_is {A = Shape} (NoKind 0) f e))
+no_kind_number (Err n) w h f e = sym (ap number (err_is {A = Shape} (At NoKind 0) f e))
 
 shape_number : (o : Option Item) (f : StripFault) → (said 0 o >>= shape_of 0) ≡ Err f → number f ≡ by_item 0 o
 shape_number None f e = silent {A = Shape} 0 f e
@@ -86,13 +87,13 @@ shape_number (Some (Head k w h)) f e = no_kind_number k w h f e
 shape_number (Some (Cells n)) f e = misplaced {A = Shape} 0 f e
 shape_number (Some (Corner c r)) f e = misplaced {A = Shape} 0 f e
 shape_number (Some (Extent w h)) f e = misplaced {A = Shape} 0 f e
-shape_number (Some (Point u v)) f e = misplaced {A = Shape} 0 f e
+shape_number (Some (Point p)) f e = misplaced {A = Shape} 0 f e
 shape_number (Some (Call q)) f e = misplaced {A = Shape} 0 f e
 shape_number (Some End) f e = misplaced {A = Shape} 0 f e
 
-wrong_count : (b : Bool) (n i : ℕ) (f : StripFault) → ◌≡◌ {A = Result ℕ StripFault} (cond b (Ok n) (Err (WrongCount i))) (Err f) → number f ≡ 5
+wrong_count : (b : Bool) (n i : ℕ) (f : StripFault) → ◌≡◌ {A = Result ℕ StripFault} (cond b (Ok n) (Err (At WrongCount i))) (Err f) → number f ≡ 5
 wrong_count true n i f e = absurd cc
-wrong_count false n i f e = sym (ap number (err_is {A = ℕ} (WrongCount i) f e))
+wrong_count false n i f e = sym (ap number (err_is {A = ℕ} (At WrongCount i) f e))
 
 count_number : (n i : ℕ) → i ≡ 1 → (o : Option Item) (f : StripFault) → (said i o >>= count_of n i) ≡ Err f → number f ≡ by_item i o
 count_number n i one None f e = silent {A = ℕ} i f e
@@ -100,7 +101,7 @@ count_number n i one (Some (Head k w h)) f e = misplaced {A = ℕ} i f e ∙ sym
 count_number n i one (Some (Cells m)) f e = wrong_count (m == n) n i f e ∙ sym (ap (λ (j : ℕ). cond (j == 1) 5 4) one)
 count_number n i one (Some (Corner c r)) f e = misplaced {A = ℕ} i f e
 count_number n i one (Some (Extent w h)) f e = misplaced {A = ℕ} i f e
-count_number n i one (Some (Point u v)) f e = misplaced {A = ℕ} i f e
+count_number n i one (Some (Point p)) f e = misplaced {A = ℕ} i f e
 count_number n i one (Some (Call q)) f e = misplaced {A = ℕ} i f e
 count_number n i one (Some End) f e = misplaced {A = ℕ} i f e
 
@@ -113,7 +114,7 @@ late i (Head n w h) le = late_not i 0 (omega arith)
 late i (Cells n) le = late_not i 1 (omega arith)
 late i (Corner c r) le = refl
 late i (Extent w h) le = refl
-late i (Point u v) le = refl
+late i (Point p) le = refl
 late i (Call q) le = refl
 late i End le = refl
 
@@ -126,7 +127,7 @@ corner_order i (Head k w h) f e = misplaced {A = ℕ × ℕ} i f e
 corner_order i (Cells m) f e = misplaced {A = ℕ × ℕ} i f e
 corner_order i (Corner c r) f e = absurd cc
 corner_order i (Extent w h) f e = misplaced {A = ℕ × ℕ} i f e
-corner_order i (Point u v) f e = misplaced {A = ℕ × ℕ} i f e
+corner_order i (Point p) f e = misplaced {A = ℕ × ℕ} i f e
 corner_order i (Call q) f e = misplaced {A = ℕ × ℕ} i f e
 corner_order i End f e = misplaced {A = ℕ × ℕ} i f e
 
@@ -135,7 +136,7 @@ extent_order i (Head k w h) f e = misplaced {A = ℕ × ℕ} i f e
 extent_order i (Cells m) f e = misplaced {A = ℕ × ℕ} i f e
 extent_order i (Corner c r) f e = misplaced {A = ℕ × ℕ} i f e
 extent_order i (Extent w h) f e = absurd cc
-extent_order i (Point u v) f e = misplaced {A = ℕ × ℕ} i f e
+extent_order i (Point p) f e = misplaced {A = ℕ × ℕ} i f e
 extent_order i (Call q) f e = misplaced {A = ℕ × ℕ} i f e
 extent_order i End f e = misplaced {A = ℕ × ℕ} i f e
 
@@ -144,7 +145,7 @@ step_order i (Head k w h) f e = misplaced {A = Bool} i f e
 step_order i (Cells m) f e = misplaced {A = Bool} i f e
 step_order i (Corner c r) f e = misplaced {A = Bool} i f e
 step_order i (Extent w h) f e = misplaced {A = Bool} i f e
-step_order i (Point u v) f e = absurd cc
+step_order i (Point p) f e = absurd cc
 step_order i (Call q) f e = absurd cc
 step_order i End f e = absurd cc
 
@@ -186,7 +187,7 @@ window_number ws s rs m f p a (inr h) =
     (part_number extent_of ws h.1 (m.place + 1) f raw (λ o e. late_number extent_of extent_order (m.place + 1) far o f e) (extent_err (single (of_item extent_of) (from (m.place + 1) h.1)) h.0 f h.4))
 
 -- a word among the steps
-steps_number : (ws : List ℕ) (s : Shape) (rs : List ℕ) (m : Left) (g : Option Frame) (l : Left) (f : StripFault) → Passed ws s rs m → announced ws ≡ s.width * s.height → TheWindow m.place m.words g l → SomeSteps l.place l.words f
+steps_number : (ws : List ℕ) (s : Shape) (rs : List ℕ) (m : Left) (g : Option Rectangle) (l : Left) (f : StripFault) → Passed ws s rs m → announced ws ≡ s.width * s.height → TheWindow m.place m.words g l → SomeSteps l.place l.words f
     → number f ≡ by_word ws (told_word f) (slice_get ws (told_word f))
 steps_number ws s rs m g l f p a t k =
     let start = head_word s ∷ count_word s ∷ rs in
@@ -211,7 +212,7 @@ whole_front ws x f told t = (t.0, t.1, sym (ap (take (told_word f)) t.2 ∙ take
 
 end_number : (n i : ℕ) (ws : List ℕ) (f : StripFault) → ended n (from i ws) ≡ Err f → number f ≡ 4
 end_number n i [] f e =
-    elim (chosen (n == 0) (Ok (from i [])) (Err (OutOfOrder i)) (Err f) e) [
+    elim (chosen (n == 0) (Ok (from i [])) (Err (At OutOfOrder i)) (Err f) e) [
       | inl p ↦ absurd (let q = p.1 in cc)
       | inr p ↦ misplaced {A = Left} i f p.1
     ]

@@ -19,7 +19,7 @@ Says k b (Head n w h) = (k ≡ 1) × (n ≡ given (b / 2 ^ 24)) × (w ≡ b / 2 
 Says k b (Cells n) = (k ≡ 2) × (n ≡ b)
 Says k b (Corner c r) = (k ≡ 3) × (b < 2 ^ 24) × (c ≡ b / 2 ^ 12) × (r ≡ b % 2 ^ 12)
 Says k b (Extent w h) = (k ≡ 4) × (b < 2 ^ 24) × (w ≡ b / 2 ^ 12) × (h ≡ b % 2 ^ 12)
-Says k b (Point u v) = (k ≡ 5) × (b < 2 ^ 10) × (u ≡ b / 2 ^ 5) × (v ≡ b % 2 ^ 5)
+Says k b (Point p) = (k ≡ 5) × (b < 2 ^ 10) × (p.u ≡ b / 2 ^ 5) × (p.v ≡ b % 2 ^ 5)
 Says k b (Call q) = (k ≡ 6) × (filter_number q ≡ b)
 Says k b End = (k ≡ 7) × (b ≡ 0)
 
@@ -47,7 +47,7 @@ says_extent b x e =
 
 says_point : (b : ℕ) (x : Item) → point_item b ≡ Some x → Says 5 b x
 says_point b x e =
-    let p = cond_some (nat_lt b (2 ^ 10)) (Point (b / 2 ^ 5) (b % 2 ^ 5)) x e in
+    let p = cond_some (nat_lt b (2 ^ 10)) (Point (record { u = b / 2 ^ 5; v = b % 2 ^ 5 })) x e in
     subst (Says 5 b) p.1 (refl, ltb-true b (2 ^ 10) p.0, refl, refl)
 
 says_end : (b : ℕ) (x : Item) → end_item b ≡ Some x → Says 7 b x
@@ -165,7 +165,7 @@ word_says w (Head k v h) s =
 word_says w (Cells n) s = (omega (arith, s.0, s.1), omega (arith, s.1))
 word_says w (Corner c r) s = (omega (arith, s.0, s.1, s.2, s.3), (omega (arith, s.1, s.2), omega (arith, s.3)))
 word_says w (Extent v h) s = (omega (arith, s.0, s.1, s.2, s.3), (omega (arith, s.1, s.2), omega (arith, s.3)))
-word_says w (Point u v) s = (omega (arith, s.0, s.1, s.2, s.3), (omega (arith, s.1, s.2), omega (arith, s.3)))
+word_says w (Point p) s = (omega (arith, s.0, s.1, s.2, s.3), (omega (arith, s.1, s.2), omega (arith, s.3)))
 word_says w (Call q) s = (omega (arith, s.0, s.1), tt)
 word_says w End s = (omega (arith, s.0, s.1), tt)
 
@@ -211,13 +211,13 @@ item_again (Head k w h) fits =
 item_again (Cells n) fits = by_parts (item_word (Cells n)) 2 n refl fits
 item_again (Corner c r) fits = by_parts (item_word (Corner c r)) 3 (c * 2 ^ 12 + r) (omega arith) (omega (arith, fits.0, fits.1)) ∙ ap (option_map (λ p. Corner p.0 p.1)) (pair_again c r fits.0 fits.1)
 item_again (Extent w h) fits = by_parts (item_word (Extent w h)) 4 (w * 2 ^ 12 + h) (omega arith) (omega (arith, fits.0, fits.1)) ∙ ap (option_map (λ p. Extent p.0 p.1)) (pair_again w h fits.0 fits.1)
-item_again (Point u v) fits =
-    let b = u * 2 ^ 5 + v in
+item_again (Point p) fits =
+    let b = p.u * 2 ^ 5 + p.v in
     let f0 = fits.0 in
     let f1 = fits.1 in
     let t = lt-ltb b (2 ^ 10) (omega arith) in
-    let upper : b / 2 ^ 5 ≡ u = omega arith in
-    let lower : b % 2 ^ 5 ≡ v = omega arith in
-    by_parts (item_word (Point u v)) 5 b (omega arith) (omega arith) ∙ rw (t, upper, lower) refl
+    let upper : b / 2 ^ 5 ≡ p.u = omega arith in
+    let lower : b % 2 ^ 5 ≡ p.v = omega arith in
+    by_parts (item_word (Point p)) 5 b (omega arith) (omega arith) ∙ rw (t, upper, lower) refl
 item_again (Call q) fits = by_parts (item_word (Call q)) 6 (filter_number q) refl (omega (arith, filter_below q)) ∙ ap (option_map Call) (filter_again q)
 item_again End fits = by_parts (item_word End) 7 0 refl (lit< tt) ∙ refl

@@ -5,7 +5,8 @@ use Rattle.strips.specs.Reading.{Left, from, ◌>>=◌, said, is_step, word_due,
 use Rattle.strips.specs.declared.kind.CellKind.{CellKind}
 use Rattle.strips.specs.declared.item.Item.{Item}
 use Rattle.strips.specs.declared.fault.StripFault.{StripFault}
-use Rattle.strips.specs.declared.fault.StripFault.TheVariants.{CutShort}
+use Rattle.strips.specs.declared.fault.StripFault.TheVariants.{At}
+use Rattle.strips.specs.declared.fault.Ground.TheVariants.{CutShort}
 
 -- ---- raw words
 
@@ -60,11 +61,11 @@ steps_first i w ws =
     ap (λ (r : Result (Bool × Left) StripFault). r >>= λ b. goes b.0 b.1) (step_first i w ws)
     ∙ signed (step_at i w) (from (i + 1) ws) goes
 
-step_none : (i : ℕ) → step_due (from i []) ≡ Err (CutShort i)
+step_none : (i : ℕ) → step_due (from i []) ≡ Err (At CutShort i)
 unfolding step_due item_due word_due
 step_none i = refl
 
-pub steps_none : (i : ℕ) → steps_from i [] ≡ Err (CutShort i)
+pub steps_none : (i : ℕ) → steps_from i [] ≡ Err (At CutShort i)
 unfolding steps_from
 steps_none i = refl
 
@@ -116,7 +117,7 @@ refused_by i (Err g) m f e = cc
 
 pub steps_refused : (n i : ℕ) (ws : List ℕ) (f : StripFault) (total : Result (ℕ × Left) StripFault) → step_due (from i ws) ≡ Err f → added n (steps_from i ws) ≡ total → total ≡ Err f
 steps_refused n i [] f total e so_far =
-    let g : CutShort i ≡ f = (let s = step_none i in cc) in
+    let g : At CutShort i ≡ f = (let s = step_none i in cc) in
     let all : added n (steps_from i []) ≡ Err f = rw (steps_none i, g) refl in
     sym so_far ∙ all
 steps_refused n i (w ∷ ws) f total e so_far =

@@ -40,7 +40,7 @@ shape_is i (Head (Err n) w h) s e = absurd cc
 shape_is i (Cells n) s e = absurd cc
 shape_is i (Corner c r) s e = absurd cc
 shape_is i (Extent w h) s e = absurd cc
-shape_is i (Point u v) s e = absurd cc
+shape_is i (Point p) s e = absurd cc
 shape_is i (Call q) s e = absurd cc
 shape_is i End s e = absurd cc
 

@@ -11,9 +11,10 @@ use Rattle.strips.specs.declared.kind.NoSuchKind.{NoSuchKind}
 use Rattle.strips.specs.declared.item.Item.{Item}
 use Rattle.strips.specs.declared.item.Item.TheVariants.{Head, Cells, Corner, Extent, Point, Call, End}
 use Rattle.strips.specs.declared.parts.Shape.{Shape}
-use Rattle.strips.specs.declared.parts.Frame.{Frame}
+use Rattle.sheets.specs.declared.window.Rectangle.{Rectangle}
 use Rattle.strips.specs.declared.fault.StripFault.{StripFault}
-use Rattle.strips.specs.declared.fault.StripFault.TheVariants.{CutShort, NoWord, OutOfOrder, NoKind, WrongCount, NoCell}
+use Rattle.strips.specs.declared.fault.StripFault.TheVariants.{At}
+use Rattle.strips.specs.declared.fault.Ground.TheVariants.{CutShort, NoWord, OutOfOrder, NoKind, WrongCount, NoCell}
 use Rattle.strips.proofs.Shapes.{bind_ok, ok_is}
 use Rattle.strips.proofs.Loops.{beside, step_at, steps_first, steps_none}
 use Rattle.strips.proofs.Taken.{framed}
@@ -58,14 +59,14 @@ TellsHere g = (i w : ℕ) (f : StripFault) → g i w ≡ Err f → told_word f �
 
 pub single_place : {A : Type 0} (g : ℕ → ℕ → Result A StripFault) → TellsHere g → (i : ℕ) (ws : List ℕ) (f : StripFault) → single g (from i ws) ≡ Err f → told_word f ≡ i
 unfolding word_due
-single_place {A} g tells i [] f e = sym (ap told_word (err_is {A = A × Left} (CutShort i) f e))
+single_place {A} g tells i [] f e = sym (ap told_word (err_is {A = A × Left} (At CutShort i) f e))
 single_place g tells i (w ∷ ws) f e = tells i w f (beside_err (g i w) (from (i + 1) ws) f e)
 
 -- what a part of one word refused
 pub single_cause : {A : Type 0} (g : ℕ → ℕ → Result A StripFault) (i : ℕ) (ws : List ℕ) (f : StripFault) → single g (from i ws) ≡ Err f
-    → ((ws ≡ []) × (CutShort i ≡ f)) ⊎ ((w : ℕ) × (after : List ℕ) × (ws ≡ w ∷ after) × (g i w ≡ Err f))
+    → ((ws ≡ []) × (At CutShort i ≡ f)) ⊎ ((w : ℕ) × (after : List ℕ) × (ws ≡ w ∷ after) × (g i w ≡ Err f))
 unfolding word_due
-single_cause {A} g i [] f e = inl (refl, err_is {A = A × Left} (CutShort i) f e)
+single_cause {A} g i [] f e = inl (refl, err_is {A = A × Left} (At CutShort i) f e)
 single_cause g i (w ∷ ws) f e = inr (w, ws, refl, beside_err (g i w) (from (i + 1) ws) f e)
 
 single_refused : {A : Type 0} (g : ℕ → ℕ → Result A StripFault) (i : ℕ) (ws : List ℕ) (f : StripFault) → single g (from i ws) ≡ Err f → (vs : List ℕ) → Agree 1 ws vs → single g (from i vs) ≡ Err f
@@ -182,7 +183,7 @@ of_item h i w = said i (item_of w) >>= h i
 
 said_here : {A : Type 0} (h : ℕ → Item → Result A StripFault) → ((i : ℕ) (x : Item) (f : StripFault) → h i x ≡ Err f → told_word f ≡ i) → (i : ℕ) (o : Option Item) (f : StripFault) → (said i o >>= h i) ≡ Err f → told_word f ≡ i
 said_here h tells i (Some x) f e = tells i x f e
-said_here {A} h tells i None f e = sym (ap told_word (err_is {A = A} (NoWord i) f e))
+said_here {A} h tells i None f e = sym (ap told_word (err_is {A = A} (At NoWord i) f e))
 
 item_told : {A : Type 0} (h : ℕ → Item → Result A StripFault) (i : ℕ) (o : Option Item) (m : Left) → ((said i o >>= beside m) >>= λ (x : Item × Left). h i x.0 >>= beside x.1) ≡ ((said i o >>= h i) >>= beside m)
 item_told h i (Some x) m = refl
@@ -194,32 +195,32 @@ unfolding item_due word_due
 item_single h i [] = refl
 item_single h i (w ∷ ws) = item_told h i (item_of w) (from (i + 1) ws)
 
-order_here : {A : Type 0} (i : ℕ) (f : StripFault) → ◌≡◌ {A = Result A StripFault} (Err (OutOfOrder i)) (Err f) → told_word f ≡ i
-order_here {A} i f e = sym (ap told_word (err_is {A = A} (OutOfOrder i) f e))
+order_here : {A : Type 0} (i : ℕ) (f : StripFault) → ◌≡◌ {A = Result A StripFault} (Err (At OutOfOrder i)) (Err f) → told_word f ≡ i
+order_here {A} i f e = sym (ap told_word (err_is {A = A} (At OutOfOrder i) f e))
 
 kind_here : (i : ℕ) (k : Result CellKind NoSuchKind) (w h : ℕ) (f : StripFault) → shape_by i k w h ≡ Err f → told_word f ≡ i
 kind_here i (Ok k) w h f e = absurd cc
-kind_here i (Err n) w h f e = sym (ap told_word (err_is {A = Shape} (NoKind i) f e))
+kind_here i (Err n) w h f e = sym (ap told_word (err_is {A = Shape} (At NoKind i) f e))
 
 shape_here : (i : ℕ) (x : Item) (f : StripFault) → shape_of i x ≡ Err f → told_word f ≡ i
 shape_here i (Head k w h) f e = kind_here i k w h f e
 shape_here i (Cells n) f e = order_here {A = Shape} i f e
 shape_here i (Corner c r) f e = order_here {A = Shape} i f e
 shape_here i (Extent w h) f e = order_here {A = Shape} i f e
-shape_here i (Point u v) f e = order_here {A = Shape} i f e
+shape_here i (Point p) f e = order_here {A = Shape} i f e
 shape_here i (Call q) f e = order_here {A = Shape} i f e
 shape_here i End f e = order_here {A = Shape} i f e
 
-count_by_here : (b : Bool) (n i : ℕ) (f : StripFault) → ◌≡◌ {A = Result ℕ StripFault} (cond b (Ok n) (Err (WrongCount i))) (Err f) → told_word f ≡ i
+count_by_here : (b : Bool) (n i : ℕ) (f : StripFault) → ◌≡◌ {A = Result ℕ StripFault} (cond b (Ok n) (Err (At WrongCount i))) (Err f) → told_word f ≡ i
 count_by_here true n i f e = absurd cc
-count_by_here false n i f e = sym (ap told_word (err_is {A = ℕ} (WrongCount i) f e))
+count_by_here false n i f e = sym (ap told_word (err_is {A = ℕ} (At WrongCount i) f e))
 
 count_here : (n i : ℕ) (x : Item) (f : StripFault) → count_of n i x ≡ Err f → told_word f ≡ i
 count_here n i (Head k w h) f e = order_here {A = ℕ} i f e
 count_here n i (Cells m) f e = count_by_here (m == n) n i f e
 count_here n i (Corner c r) f e = order_here {A = ℕ} i f e
 count_here n i (Extent w h) f e = order_here {A = ℕ} i f e
-count_here n i (Point u v) f e = order_here {A = ℕ} i f e
+count_here n i (Point p) f e = order_here {A = ℕ} i f e
 count_here n i (Call q) f e = order_here {A = ℕ} i f e
 count_here n i End f e = order_here {A = ℕ} i f e
 
@@ -228,7 +229,7 @@ corner_here i (Head k w h) f e = order_here {A = ℕ × ℕ} i f e
 corner_here i (Cells m) f e = order_here {A = ℕ × ℕ} i f e
 corner_here i (Corner c r) f e = absurd cc
 corner_here i (Extent w h) f e = order_here {A = ℕ × ℕ} i f e
-corner_here i (Point u v) f e = order_here {A = ℕ × ℕ} i f e
+corner_here i (Point p) f e = order_here {A = ℕ × ℕ} i f e
 corner_here i (Call q) f e = order_here {A = ℕ × ℕ} i f e
 corner_here i End f e = order_here {A = ℕ × ℕ} i f e
 
@@ -237,7 +238,7 @@ extent_here i (Head k w h) f e = order_here {A = ℕ × ℕ} i f e
 extent_here i (Cells m) f e = order_here {A = ℕ × ℕ} i f e
 extent_here i (Corner c r) f e = order_here {A = ℕ × ℕ} i f e
 extent_here i (Extent w h) f e = absurd cc
-extent_here i (Point u v) f e = order_here {A = ℕ × ℕ} i f e
+extent_here i (Point p) f e = order_here {A = ℕ × ℕ} i f e
 extent_here i (Call q) f e = order_here {A = ℕ × ℕ} i f e
 extent_here i End f e = order_here {A = ℕ × ℕ} i f e
 
@@ -246,13 +247,13 @@ step_here i (Head k w h) f e = order_here {A = Bool} i f e
 step_here i (Cells m) f e = order_here {A = Bool} i f e
 step_here i (Corner c r) f e = order_here {A = Bool} i f e
 step_here i (Extent w h) f e = order_here {A = Bool} i f e
-step_here i (Point u v) f e = absurd cc
+step_here i (Point p) f e = absurd cc
 step_here i (Call q) f e = absurd cc
 step_here i End f e = absurd cc
 
-cell_by_here : (b : Bool) (i w : ℕ) (f : StripFault) → ◌≡◌ {A = Result ℕ StripFault} (cond b (Ok w) (Err (NoCell i))) (Err f) → told_word f ≡ i
+cell_by_here : (b : Bool) (i w : ℕ) (f : StripFault) → ◌≡◌ {A = Result ℕ StripFault} (cond b (Ok w) (Err (At NoCell i))) (Err f) → told_word f ≡ i
 cell_by_here true i w f e = absurd cc
-cell_by_here false i w f e = sym (ap told_word (err_is {A = ℕ} (NoCell i) f e))
+cell_by_here false i w f e = sym (ap told_word (err_is {A = ℕ} (At NoCell i) f e))
 
 -- ---- the parts of a strip
 
@@ -299,16 +300,16 @@ steady_raws k (suc n) =
 -- ---- a window
 
 -- a frame of two pairs, and what is left
-abbrev framing : ℕ × ℕ → Left → ℕ × ℕ → Result (Frame × Left) StripFault
+abbrev framing : ℕ × ℕ → Left → ℕ × ℕ → Result (Rectangle × Left) StripFault
 framing c m e = Ok (framed c e, m)
 
 abbrev pub corner_part : Left → Result ((ℕ × ℕ) × Left) StripFault
 corner_part l = single (of_item corner_of) l
 
-abbrev pub extent_part : ℕ × ℕ → Left → Result (Frame × Left) StripFault
+abbrev pub extent_part : ℕ × ℕ → Left → Result (Rectangle × Left) StripFault
 extent_part c l = single (of_item extent_of) l >>= λ e. Ok (framed c e.0, e.1)
 
-frame_told : (r : Result (ℕ × ℕ) StripFault) (m : Left) (f : ℕ × ℕ → Left → Result (Frame × Left) StripFault) → (r >>= λ c. f c m) ≡ ((r >>= beside m) >>= λ c. f c.0 c.1)
+frame_told : (r : Result (ℕ × ℕ) StripFault) (m : Left) (f : ℕ × ℕ → Left → Result (Rectangle × Left) StripFault) → (r >>= λ c. f c m) ≡ ((r >>= beside m) >>= λ c. f c.0 c.1)
 frame_told (Ok c) m f = refl
 frame_told (Err e) m f = refl
 
@@ -320,7 +321,7 @@ extent_shifted : (i : ℕ) (r : Result (Item × Left) StripFault) (c : ℕ × �
 extent_shifted i (Ok x) c = extent_told (extent_of i x.0) x.1 c
 extent_shifted i (Err e) c = refl
 
-frame_shifted : (i : ℕ) (r : Result (Item × Left) StripFault) (f : ℕ × ℕ → Left → Result (Frame × Left) StripFault) → (r >>= λ x. corner_of i x.0 >>= λ c. f c x.1) ≡ ((r >>= λ x. corner_of i x.0 >>= beside x.1) >>= λ c. f c.0 c.1)
+frame_shifted : (i : ℕ) (r : Result (Item × Left) StripFault) (f : ℕ × ℕ → Left → Result (Rectangle × Left) StripFault) → (r >>= λ x. corner_of i x.0 >>= λ c. f c x.1) ≡ ((r >>= λ x. corner_of i x.0 >>= beside x.1) >>= λ c. f c.0 c.1)
 frame_shifted i (Ok x) f = frame_told (corner_of i x.0) x.1 f
 frame_shifted i (Err e) f = refl
 
@@ -332,7 +333,7 @@ bind_same (Err e) f g h = refl
 pub frame_parts : (i : ℕ) (ws : List ℕ) → frame_due (from i ws) ≡ (corner_part (from i ws) >>= λ c. extent_part c.0 c.1)
 unfolding frame_due
 frame_parts i ws =
-    let second : ℕ × ℕ → Left → Result (Frame × Left) StripFault = λ c m. item_due m >>= λ y. extent_of m.place y.0 >>= λ e. Ok (framed c e, y.1) in
+    let second : ℕ × ℕ → Left → Result (Rectangle × Left) StripFault = λ c m. item_due m >>= λ y. extent_of m.place y.0 >>= λ e. Ok (framed c e, y.1) in
     let parts : (c : ℕ × ℕ) (m : Left) → second c m ≡ extent_part c m = λ c m. extent_shifted m.place (item_due m) c ∙ ap (λ (r : Result ((ℕ × ℕ) × Left) StripFault). r >>= λ e. Ok (framed c e.0, e.1)) (item_single extent_of m.place m.words) in
     frame_shifted i (item_due (from i ws)) second
     ∙ ap (λ (r : Result ((ℕ × ℕ) × Left) StripFault). r >>= λ c. second c.0 c.1) (item_single corner_of i ws)
@@ -340,21 +341,21 @@ frame_parts i ws =
 
 steady_extent : (c : ℕ × ℕ) → Steady (extent_part c)
 steady_extent c =
-    let done : ℕ × ℕ → Left → Result (Frame × Left) StripFault = λ e. nothing (framed c e) in
+    let done : ℕ × ℕ → Left → Result (Rectangle × Left) StripFault = λ e. nothing (framed c e) in
     steady_then (single (of_item extent_of)) done (steady_item extent_of extent_here) (λ e. steady_nothing (framed c e))
 
 steady_frame : Steady frame_due
 steady_frame =
-    let all : Left → Result (Frame × Left) StripFault = λ l. corner_part l >>= λ c. extent_part c.0 c.1 in
+    let all : Left → Result (Rectangle × Left) StripFault = λ l. corner_part l >>= λ c. extent_part c.0 c.1 in
     steady_same all frame_due (λ i ws. frame_parts i ws) (steady_then corner_part extent_part (steady_item corner_of corner_here) (λ c. steady_extent c))
 
 -- the frame as a window
-abbrev pub some_frame : Left → Result (Option Frame × Left) StripFault
+abbrev pub some_frame : Left → Result (Option Rectangle × Left) StripFault
 some_frame l = frame_due l >>= λ f. Ok (Some f.0, f.1)
 
 steady_some : Steady some_frame
 steady_some =
-    let done : Frame → Left → Result (Option Frame × Left) StripFault = λ f. nothing (Some f) in
+    let done : Rectangle → Left → Result (Option Rectangle × Left) StripFault = λ f. nothing (Some f) in
     steady_then frame_due done steady_frame (λ f. steady_nothing (Some f))
 
 -- which of the two it is, the first word tells
@@ -363,7 +364,7 @@ begins_same n [] vs same = absurd same
 begins_same n (w ∷ ws) [] same = absurd same
 begins_same n (w ∷ ws) (v ∷ vs) same = ap (λ (x : ℕ). kind x == 3) (sym same.0)
 
-abbrev either : Bool → Left → Result (Option Frame × Left) StripFault
+abbrev either : Bool → Left → Result (Option Rectangle × Left) StripFault
 either b l = cond b (some_frame l) (nothing None l)
 
 steady_either : (b : Bool) → Steady (either b)
@@ -418,7 +419,7 @@ refused_on i w ws f false h e more = absurd cc
 
 steps_refused_by : (i : ℕ) (ws : List ℕ) (f : StripFault) → steps_from i ws ≡ Err f → (n : ℕ) × (told_word f ≡ i + n) × ((vs : List ℕ) → Agree (suc n) ws vs → steps_from i vs ≡ Err f)
 steps_refused_by i [] f e =
-    let here : CutShort i ≡ f = err_is {A = ℕ × Left} (CutShort i) f (sym (steps_none i) ∙ e) in
+    let here : At CutShort i ≡ f = err_is {A = ℕ × Left} (At CutShort i) f (sym (steps_none i) ∙ e) in
     (0, sym (ap told_word here) ∙ (let z : i ≡ i + 0 = omega arith in z), λ vs same. absurd same)
 steps_refused_by i (w ∷ ws) f e =
     let goes : Bool → Result (ℕ × Left) StripFault = λ b. cond b (steps_from (i + 1) ws >>= one_more) (Ok (0, from (i + 1) ws)) in
@@ -507,7 +508,7 @@ corner_place i ws f e = single_place (of_item corner_of) (λ i w f e. said_here 
 
 pub extent_err : (r : Result ((ℕ × ℕ) × Left) StripFault) (c : ℕ × ℕ) (f : StripFault) → (r >>= λ (e : (ℕ × ℕ) × Left). framing c e.1 e.0) ≡ Err f → r ≡ Err f
 extent_err (Ok e) c f h = absurd cc
-extent_err (Err d) c f h = ap (λ (z : StripFault). Err z) (err_is {A = Frame × Left} d f h)
+extent_err (Err d) c f h = ap (λ (z : StripFault). Err z) (err_is {A = Rectangle × Left} d f h)
 
 pub extent_place : (c : ℕ × ℕ) (i : ℕ) (ws : List ℕ) (f : StripFault) → extent_part c (from i ws) ≡ Err f → told_word f ≡ i
 extent_place c i ws f e = single_place (of_item extent_of) (λ i w f e. said_here extent_of extent_here i (item_of w) f e) i ws f (extent_err (single (of_item extent_of) (from i ws)) c f e)
@@ -525,11 +526,11 @@ pub steady_parts : Steady parts
 unfolding parts
 steady_parts =
     let e5 : ℕ → Left → Result (Unit {0} × Left) StripFault = λ k. nothing tt in
-    let e4 : Option Frame → Left → Result (Unit {0} × Left) StripFault = λ f l. steps_due l >>= λ k. e5 k.0 k.1 in
+    let e4 : Option Rectangle → Left → Result (Unit {0} × Left) StripFault = λ f l. steps_due l >>= λ k. e5 k.0 k.1 in
     let e3 : Unit {0} → Left → Result (Unit {0} × Left) StripFault = λ u l. window_due l >>= λ f. e4 f.0 f.1 in
     let e2 : CellKind → ℕ → Left → Result (Unit {0} × Left) StripFault = λ k n l. raws_beside k n l >>= λ r. e3 r.0 r.1 in
     let e1 : Shape → Left → Result (Unit {0} × Left) StripFault = λ s l. count_due (s.width * s.height) l >>= λ c. e2 s.kind c.0 c.1 in
-    let s4 : (f : Option Frame) → Steady (e4 f) = λ f. steady_then steps_due e5 steady_steps (λ k. steady_nothing tt) in
+    let s4 : (f : Option Rectangle) → Steady (e4 f) = λ f. steady_then steps_due e5 steady_steps (λ k. steady_nothing tt) in
     let s3 : (u : Unit {0}) → Steady (e3 u) = λ u. steady_then window_due e4 steady_window s4 in
     let s2 : (k : CellKind) (n : ℕ) → Steady (e2 k n) = λ k n. steady_then (raws_beside k n) e3 (steady_raws k n) s3 in
     let s1 : (s : Shape) → Steady (e1 s) = λ s. steady_then (count_due (s.width * s.height)) (e2 s.kind) (steady_count (s.width * s.height)) (s2 s.kind) in

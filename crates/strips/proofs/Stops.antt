@@ -3,7 +3,7 @@ use Rattle.std.proofs.Common.{◌≡◌, ℕ, ◌*◌, List, Option, Result, Ok,
 use Rattle.strips.specs.Jobs.{Job}
 use Rattle.strips.specs.Reading.{Left, from, ◌>>=◌, shape_due, count_due, raws_due, window_due, steps_due, ended, job_from}
 use Rattle.strips.specs.declared.parts.Shape.{Shape}
-use Rattle.strips.specs.declared.parts.Frame.{Frame}
+use Rattle.sheets.specs.declared.window.Rectangle.{Rectangle}
 use Rattle.strips.specs.declared.fault.StripFault.{StripFault}
 use Rattle.strips.proofs.Shapes.{bind_ok}
 use Rattle.strips.proofs.Told.{made}
@@ -15,14 +15,14 @@ pub stopped : {P : Type 0} (n : ℕ) (ws : List ℕ) (f : StripFault) → job_fr
     → ((s : Shape × Left) → shape_due (from 0 ws) ≡ Ok s → count_due (s.0.width * s.0.height) s.1 ≡ Err f → P)
     → ((s : Shape × Left) (c : ℕ × Left) → shape_due (from 0 ws) ≡ Ok s → count_due (s.0.width * s.0.height) s.1 ≡ Ok c → raws_due s.0.kind c.0 c.1 ≡ Err f → P)
     → ((s : Shape × Left) (c : ℕ × Left) (r : Left) → shape_due (from 0 ws) ≡ Ok s → count_due (s.0.width * s.0.height) s.1 ≡ Ok c → raws_due s.0.kind c.0 c.1 ≡ Ok r → window_due r ≡ Err f → P)
-    → ((s : Shape × Left) (c : ℕ × Left) (r : Left) (g : Option Frame × Left) → shape_due (from 0 ws) ≡ Ok s → count_due (s.0.width * s.0.height) s.1 ≡ Ok c → raws_due s.0.kind c.0 c.1 ≡ Ok r → window_due r ≡ Ok g → steps_due g.1 ≡ Err f → P)
-    → ((s : Shape × Left) (c : ℕ × Left) (r : Left) (g : Option Frame × Left) (k : ℕ × Left) → shape_due (from 0 ws) ≡ Ok s → count_due (s.0.width * s.0.height) s.1 ≡ Ok c → raws_due s.0.kind c.0 c.1 ≡ Ok r → window_due r ≡ Ok g → steps_due g.1 ≡ Ok k → ended n k.1 ≡ Err f → P)
+    → ((s : Shape × Left) (c : ℕ × Left) (r : Left) (g : Option Rectangle × Left) → shape_due (from 0 ws) ≡ Ok s → count_due (s.0.width * s.0.height) s.1 ≡ Ok c → raws_due s.0.kind c.0 c.1 ≡ Ok r → window_due r ≡ Ok g → steps_due g.1 ≡ Err f → P)
+    → ((s : Shape × Left) (c : ℕ × Left) (r : Left) (g : Option Rectangle × Left) (k : ℕ × Left) → shape_due (from 0 ws) ≡ Ok s → count_due (s.0.width * s.0.height) s.1 ≡ Ok c → raws_due s.0.kind c.0 c.1 ≡ Ok r → window_due r ≡ Ok g → steps_due g.1 ≡ Ok k → ended n k.1 ≡ Err f → P)
     → P
 unfolding job_from
 stopped n ws f e p1 p2 p3 p4 p5 p6 =
-    let sixth : Shape → ℕ × Left → Option Frame × Left → ℕ × Left → Left → Result Job StripFault = λ s c f k x. Ok (made s c.0 c.1.words f.0 k.0 f.1.words) in
-    let fifth : Shape → ℕ × Left → Option Frame × Left → ℕ × Left → Result Job StripFault = λ s c f k. ended n k.1 >>= sixth s c f k in
-    let fourth : Shape → ℕ × Left → Option Frame × Left → Result Job StripFault = λ s c f. steps_due f.1 >>= fifth s c f in
+    let sixth : Shape → ℕ × Left → Option Rectangle × Left → ℕ × Left → Left → Result Job StripFault = λ s c f k x. Ok (made s c.0 c.1.words f.0 k.0 f.1.words) in
+    let fifth : Shape → ℕ × Left → Option Rectangle × Left → ℕ × Left → Result Job StripFault = λ s c f k. ended n k.1 >>= sixth s c f k in
+    let fourth : Shape → ℕ × Left → Option Rectangle × Left → Result Job StripFault = λ s c f. steps_due f.1 >>= fifth s c f in
     let third : Shape → ℕ × Left → Left → Result Job StripFault = λ s c r. window_due r >>= fourth s c in
     let second : Shape → ℕ × Left → Result Job StripFault = λ s c. raws_due s.kind c.0 c.1 >>= third s c in
     let first : Shape × Left → Result Job StripFault = λ s. count_due (s.0.width * s.0.height) s.1 >>= second s.0 in
@@ -50,7 +50,7 @@ stopped n ws f e p1 p2 p3 p4 p5 p6 =
 abbrev after_steps : ℕ × Left → Result (Unit {0} × Left) StripFault
 after_steps k = bare k.1
 
-abbrev after_window : Option Frame × Left → Result (Unit {0} × Left) StripFault
+abbrev after_window : Option Rectangle × Left → Result (Unit {0} × Left) StripFault
 after_window f = steps_due f.1 >>= after_steps
 
 abbrev after_raws : Unit {0} × Left → Result (Unit {0} × Left) StripFault
@@ -72,11 +72,11 @@ parts_2 ws s r hs h = parts_1 ws (Ok s) hs ∙ ap (λ (z : Result (ℕ × Left) 
 pub parts_3 : (ws : List ℕ) (s : Shape × Left) (c : ℕ × Left) (r : Result Left StripFault) → shape_due (from 0 ws) ≡ Ok s → count_due (s.0.width * s.0.height) s.1 ≡ Ok c → raws_due s.0.kind c.0 c.1 ≡ r → parts (from 0 ws) ≡ ((r >>= bare) >>= after_raws)
 parts_3 ws s c r hs hc h = parts_2 ws s (Ok c) hs hc ∙ ap (λ (z : Result Left StripFault). (z >>= bare) >>= after_raws) h
 
-pub parts_4 : (ws : List ℕ) (s : Shape × Left) (c : ℕ × Left) (m : Left) (r : Result (Option Frame × Left) StripFault) → shape_due (from 0 ws) ≡ Ok s → count_due (s.0.width * s.0.height) s.1 ≡ Ok c → raws_due s.0.kind c.0 c.1 ≡ Ok m → window_due m ≡ r
+pub parts_4 : (ws : List ℕ) (s : Shape × Left) (c : ℕ × Left) (m : Left) (r : Result (Option Rectangle × Left) StripFault) → shape_due (from 0 ws) ≡ Ok s → count_due (s.0.width * s.0.height) s.1 ≡ Ok c → raws_due s.0.kind c.0 c.1 ≡ Ok m → window_due m ≡ r
     → parts (from 0 ws) ≡ (r >>= after_window)
-parts_4 ws s c m r hs hc hm h = parts_3 ws s c (Ok m) hs hc hm ∙ ap (λ (z : Result (Option Frame × Left) StripFault). z >>= after_window) h
+parts_4 ws s c m r hs hc hm h = parts_3 ws s c (Ok m) hs hc hm ∙ ap (λ (z : Result (Option Rectangle × Left) StripFault). z >>= after_window) h
 
-pub parts_5 : (ws : List ℕ) (s : Shape × Left) (c : ℕ × Left) (m : Left) (g : Option Frame × Left) (r : Result (ℕ × Left) StripFault) → shape_due (from 0 ws) ≡ Ok s → count_due (s.0.width * s.0.height) s.1 ≡ Ok c → raws_due s.0.kind c.0 c.1 ≡ Ok m → window_due m ≡ Ok g
+pub parts_5 : (ws : List ℕ) (s : Shape × Left) (c : ℕ × Left) (m : Left) (g : Option Rectangle × Left) (r : Result (ℕ × Left) StripFault) → shape_due (from 0 ws) ≡ Ok s → count_due (s.0.width * s.0.height) s.1 ≡ Ok c → raws_due s.0.kind c.0 c.1 ≡ Ok m → window_due m ≡ Ok g
     → steps_due g.1 ≡ r → parts (from 0 ws) ≡ (r >>= after_steps)
 parts_5 ws s c m g r hs hc hm hg h = parts_4 ws s c m (Ok g) hs hc hm hg ∙ ap (λ (z : Result (ℕ × Left) StripFault). z >>= after_steps) h
 
@@ -95,9 +95,9 @@ parts_refused n ws f e =
 pub parts_passed : (n : ℕ) (ws : List ℕ) (j : Job) → job_from n ws ≡ Ok j → (m x : Left) × (parts (from 0 ws) ≡ Ok (tt, m)) × (ended n m ≡ Ok x)
 unfolding job_from
 parts_passed n ws j e =
-    let sixth : Shape → ℕ × Left → Option Frame × Left → ℕ × Left → Left → Result Job StripFault = λ s c f k x. Ok (made s c.0 c.1.words f.0 k.0 f.1.words) in
-    let fifth : Shape → ℕ × Left → Option Frame × Left → ℕ × Left → Result Job StripFault = λ s c f k. ended n k.1 >>= sixth s c f k in
-    let fourth : Shape → ℕ × Left → Option Frame × Left → Result Job StripFault = λ s c f. steps_due f.1 >>= fifth s c f in
+    let sixth : Shape → ℕ × Left → Option Rectangle × Left → ℕ × Left → Left → Result Job StripFault = λ s c f k x. Ok (made s c.0 c.1.words f.0 k.0 f.1.words) in
+    let fifth : Shape → ℕ × Left → Option Rectangle × Left → ℕ × Left → Result Job StripFault = λ s c f k. ended n k.1 >>= sixth s c f k in
+    let fourth : Shape → ℕ × Left → Option Rectangle × Left → Result Job StripFault = λ s c f. steps_due f.1 >>= fifth s c f in
     let third : Shape → ℕ × Left → Left → Result Job StripFault = λ s c r. window_due r >>= fourth s c in
     let second : Shape → ℕ × Left → Result Job StripFault = λ s c. raws_due s.kind c.0 c.1 >>= third s c in
     let first : Shape × Left → Result Job StripFault = λ s. count_due (s.0.width * s.0.height) s.1 >>= second s.0 in

@@ -11,9 +11,10 @@ use Rattle.strips.specs.declared.kind.CellKind.{CellKind}
 use Rattle.strips.specs.declared.item.Item.{Item}
 use Rattle.strips.specs.declared.item.Item.TheVariants.{Head, Cells, Corner, Extent, Point, Call, End}
 use Rattle.strips.specs.declared.parts.Shape.{Shape}
-use Rattle.strips.specs.declared.parts.Frame.{Frame}
+use Rattle.sheets.specs.declared.window.Rectangle.{Rectangle}
 use Rattle.strips.specs.declared.fault.StripFault.{StripFault}
-use Rattle.strips.specs.declared.fault.StripFault.TheVariants.{NoCell, WrongCount}
+use Rattle.strips.specs.declared.fault.StripFault.TheVariants.{At}
+use Rattle.strips.specs.declared.fault.Ground.TheVariants.{NoCell, WrongCount}
 use Rattle.strips.proofs.Items.{chosen, item_takes}
 use Rattle.strips.proofs.Shapes.{bind_ok, ok_is, said_is, item_first, shape_is}
 use Rattle.strips.proofs.Loops.{beside, step_at, steps_first, steps_none}
@@ -66,7 +67,7 @@ shape_takes ws s m e =
 
 -- ---- the cells word
 
-count_by : (b : Bool) (i n c : ℕ) → ◌≡◌ {A = Result ℕ StripFault} (cond b (Ok n) (Err (WrongCount i))) (Ok c) → (b ≡ true) × (n ≡ c)
+count_by : (b : Bool) (i n c : ℕ) → ◌≡◌ {A = Result ℕ StripFault} (cond b (Ok n) (Err (At WrongCount i))) (Ok c) → (b ≡ true) × (n ≡ c)
 count_by true i n c e = (refl, cc)
 count_by false i n c e = absurd cc
 
@@ -75,7 +76,7 @@ count_is n i (Head k w h) c e = absurd cc
 count_is n i (Cells m) c e = let b = count_by (m == n) i n c e in (ap Cells (eqb-true m n b.0), b.1)
 count_is n i (Corner a r) c e = absurd cc
 count_is n i (Extent w h) c e = absurd cc
-count_is n i (Point u v) c e = absurd cc
+count_is n i (Point p) c e = absurd cc
 count_is n i (Call q) c e = absurd cc
 count_is n i End c e = absurd cc
 
@@ -93,7 +94,7 @@ count_takes n i ws c m e =
 
 -- ---- the raw words
 
-cell_by : (b : Bool) (i w c : ℕ) (l m : Left) → (cond b (Ok w) (Err (NoCell i)) >>= beside l) ≡ Ok (c, m) → (b ≡ true) × (l ≡ m)
+cell_by : (b : Bool) (i w c : ℕ) (l m : Left) → (cond b (Ok w) (Err (At NoCell i)) >>= beside l) ≡ Ok (c, m) → (b ≡ true) × (l ≡ m)
 cell_by true i w c l m e =
     let one : ℕ × Left = (w, l) in
     let two : ℕ × Left = (c, m) in
@@ -164,7 +165,7 @@ corner_is i (Head k w h) c e = absurd cc
 corner_is i (Cells n) c e = absurd cc
 corner_is i (Corner a r) c e = let one : ℕ × ℕ = (a, r) in let p : one ≡ c = cc in ap (λ (q : ℕ × ℕ). Corner q.0 q.1) p
 corner_is i (Extent w h) c e = absurd cc
-corner_is i (Point u v) c e = absurd cc
+corner_is i (Point p) c e = absurd cc
 corner_is i (Call q) c e = absurd cc
 corner_is i End c e = absurd cc
 
@@ -173,18 +174,18 @@ extent_is i (Head k w h) c e = absurd cc
 extent_is i (Cells n) c e = absurd cc
 extent_is i (Corner a r) c e = absurd cc
 extent_is i (Extent w h) c e = let one : ℕ × ℕ = (w, h) in let p : one ≡ c = cc in ap (λ (q : ℕ × ℕ). Extent q.0 q.1) p
-extent_is i (Point u v) c e = absurd cc
+extent_is i (Point p) c e = absurd cc
 extent_is i (Call q) c e = absurd cc
 extent_is i End c e = absurd cc
 
-pub record TheWindow (i : ℕ) (ws : List ℕ) (f : Option Frame) (m : Left) : Type 0 where
+pub record TheWindow (i : ℕ) (ws : List ℕ) (f : Option Rectangle) (m : Left) : Type 0 where
   pub front : ws ≡ window_words f ++ m.words
   pub fits : IfSome f (λ g. Fits (corner g) × Fits (extent g))
   pub place : m.place ≡ i + length (window_words f)
 
 -- a frame of two pairs
-abbrev pub framed : ℕ × ℕ → ℕ × ℕ → Frame
-framed c e = record { column = c.0; row = c.1; width = e.0; height = e.1 }
+abbrev pub framed : ℕ × ℕ → ℕ × ℕ → Rectangle
+framed c e = record { left = c.0; top = c.1; size = record { width = e.0; height = e.1 } }
 
 frame_front : (ws v m : List ℕ) (x y : Item) (c e : ℕ × ℕ) → ws ≡ item_word x ∷ v → x ≡ Corner c.0 c.1 → v ≡ item_word y ∷ m → y ≡ Extent e.0 e.1
     → ws ≡ window_words (Some (framed c e)) ++ m
@@ -196,21 +197,21 @@ frame_front ws v m x y c e front corner-x rest extent-y =
 frame_fits : (x y : Item) (c e : ℕ × ℕ) → Fits x → x ≡ Corner c.0 c.1 → Fits y → y ≡ Extent e.0 e.1 → Fits (Corner c.0 c.1) × Fits (Extent e.0 e.1)
 frame_fits x y c e fx corner-x fy extent-y = (subst Fits corner-x fx, subst Fits extent-y fy)
 
-window_of : (i : ℕ) (ws : List ℕ) (one two : Frame × Left) → one ≡ two → TheWindow i ws (Some one.0) one.1 → TheWindow i ws (Some two.0) two.1
-window_of i ws one two p t = subst (λ (q : Frame × Left). TheWindow i ws (Some q.0) q.1) p t
+window_of : (i : ℕ) (ws : List ℕ) (one two : Rectangle × Left) → one ≡ two → TheWindow i ws (Some one.0) one.1 → TheWindow i ws (Some two.0) two.1
+window_of i ws one two p t = subst (λ (q : Rectangle × Left). TheWindow i ws (Some q.0) q.1) p t
 
-frame_takes : (i : ℕ) (ws : List ℕ) (f : Frame) (m : Left) → frame_due (from i ws) ≡ Ok (f, m) → TheWindow i ws (Some f) m
+frame_takes : (i : ℕ) (ws : List ℕ) (f : Rectangle) (m : Left) → frame_due (from i ws) ≡ Ok (f, m) → TheWindow i ws (Some f) m
 unfolding frame_due
 frame_takes i ws f m e =
-    let fourth : ℕ × ℕ → Item × Left → ℕ × ℕ → Result (Frame × Left) StripFault = λ c y z. Ok (framed c z, y.1) in
-    let third : Left → ℕ × ℕ → Item × Left → Result (Frame × Left) StripFault = λ x c y. extent_of x.place y.0 >>= fourth c y in
-    let second : Left → ℕ × ℕ → Result (Frame × Left) StripFault = λ x c. item_due x >>= third x c in
-    let first : Item × Left → Result (Frame × Left) StripFault = λ x. corner_of i x.0 >>= second x.1 in
+    let fourth : ℕ × ℕ → Item × Left → ℕ × ℕ → Result (Rectangle × Left) StripFault = λ c y z. Ok (framed c z, y.1) in
+    let third : Left → ℕ × ℕ → Item × Left → Result (Rectangle × Left) StripFault = λ x c y. extent_of x.place y.0 >>= fourth c y in
+    let second : Left → ℕ × ℕ → Result (Rectangle × Left) StripFault = λ x c. item_due x >>= third x c in
+    let first : Item × Left → Result (Rectangle × Left) StripFault = λ x. corner_of i x.0 >>= second x.1 in
     let a = bind_ok (item_due (from i ws)) first (f, m) e in
     let b = bind_ok (corner_of i a.0.0) (second a.0.1) (f, m) a.2 in
     let c = bind_ok (item_due a.0.1) (third a.0.1 b.0) (f, m) b.2 in
     let d = bind_ok (extent_of a.0.1.place c.0.0) (fourth b.0 c.0) (f, m) c.2 in
-    let one : Frame × Left = (framed b.0 d.0, c.0.1) in
+    let one : Rectangle × Left = (framed b.0 d.0, c.0.1) in
     let p = ok_is one (f, m) d.2 in
     let t = item_spelled i ws a.0.0 a.0.1 a.1 in
     let u = item_spelled a.0.1.place a.0.1.words c.0.0 c.0.1 c.1 in
@@ -223,19 +224,19 @@ frame_takes i ws f m e =
     } in
     window_of i ws one (f, m) p made
 
-pub window_takes : (i : ℕ) (ws : List ℕ) (f : Option Frame) (m : Left) → window_due (from i ws) ≡ Ok (f, m) → TheWindow i ws f m
+pub window_takes : (i : ℕ) (ws : List ℕ) (f : Option Rectangle) (m : Left) → window_due (from i ws) ≡ Ok (f, m) → TheWindow i ws f m
 unfolding window_due
 window_takes i ws f m e =
-    let some : Frame × Left → Result (Option Frame × Left) StripFault = λ g. Ok (Some g.0, g.1) in
-    let none : Option Frame × Left = (None, from i ws) in
+    let some : Rectangle × Left → Result (Option Rectangle × Left) StripFault = λ g. Ok (Some g.0, g.1) in
+    let none : Option Rectangle × Left = (None, from i ws) in
     elim (chosen (begins ws) (frame_due (from i ws) >>= some) (Ok none) (Ok (f, m)) e) [
       | inl p ↦ (
           let b = bind_ok (frame_due (from i ws)) some (f, m) p.1 in
-          let one : Option Frame × Left = (Some b.0.0, b.0.1) in
-          subst (λ (q : Option Frame × Left). TheWindow i ws q.0 q.1) (ok_is one (f, m) b.2) (frame_takes i ws b.0.0 b.0.1 b.1))
+          let one : Option Rectangle × Left = (Some b.0.0, b.0.1) in
+          subst (λ (q : Option Rectangle × Left). TheWindow i ws q.0 q.1) (ok_is one (f, m) b.2) (frame_takes i ws b.0.0 b.0.1 b.1))
       | inr p ↦ (
           let made : TheWindow i ws None (from i ws) = record { front = refl; fits = tt; place = omega arith } in
-          subst (λ (q : Option Frame × Left). TheWindow i ws q.0 q.1) (ok_is none (f, m) p.1) made)
+          subst (λ (q : Option Rectangle × Left). TheWindow i ws q.0 q.1) (ok_is none (f, m) p.1) made)
     ]
 
 -- ---- the steps
@@ -253,7 +254,7 @@ step_is i w (Head k v h) b e s = absurd cc
 step_is i w (Cells n) b e s = absurd cc
 step_is i w (Corner c r) b e s = absurd cc
 step_is i w (Extent v h) b e s = absurd cc
-step_is i w (Point u v) b e s = subst (IsStep w) (sign_is true b s) (rw e (item_takes w (Point u v) e))
+step_is i w (Point p) b e s = subst (IsStep w) (sign_is true b s) (rw e (item_takes w (Point p) e))
 step_is i w (Call q) b e s = subst (IsStep w) (sign_is true b s) (rw e (item_takes w (Call q) e))
 step_is i w End b e s = subst (IsStep w) (sign_is false b s) (item_takes w End e).0
 

@@ -7,9 +7,10 @@ use Rattle.strips.specs.Jobs.{Job, window_words, step_words, step_of, Sound, job
 use Rattle.strips.specs.Reading.{Left, from, ◌>>=◌, shape_due, count_due, raws_due, window_due, steps_due, ended, job_from}
 use Rattle.strips.specs.declared.item.Item.TheVariants.{Head, Cells, End}
 use Rattle.strips.specs.declared.parts.Shape.{Shape}
-use Rattle.strips.specs.declared.parts.Frame.{Frame}
+use Rattle.sheets.specs.declared.window.Rectangle.{Rectangle}
 use Rattle.strips.specs.declared.fault.StripFault.{StripFault}
-use Rattle.strips.specs.declared.fault.StripFault.TheVariants.{OutOfOrder}
+use Rattle.strips.specs.declared.fault.StripFault.TheVariants.{At}
+use Rattle.strips.specs.declared.fault.Ground.TheVariants.{OutOfOrder}
 use Rattle.strips.proofs.Items.{chosen}
 use Rattle.strips.proofs.Shapes.{bind_ok, ok_is}
 use Rattle.strips.proofs.Taken.{AreWords, shape_takes, count_takes, raws_takes, window_takes, steps_take}
@@ -17,7 +18,7 @@ use Rattle.strips.proofs.Taken.{AreWords, shape_takes, count_takes, raws_takes, 
 -- the strip ended there
 ended_takes : (n i : ℕ) (ws : List ℕ) (m : Left) → ended n (from i ws) ≡ Ok m → (ws ≡ []) × (n ≡ 0)
 ended_takes n i [] m e =
-    elim (chosen (n == 0) (Ok (from i [])) (Err (OutOfOrder i)) (Ok m) e) [
+    elim (chosen (n == 0) (Ok (from i [])) (Err (At OutOfOrder i)) (Ok m) e) [
       | inl p ↦ (refl, eqb-true n 0 p.0)
       | inr p ↦ absurd (let q = p.1 in cc)
     ]
@@ -30,11 +31,11 @@ pub record TheJob (n : ℕ) (ws : List ℕ) (j : Job) : Type 0 where
   pub sound : Sound j
 
 -- the job of its parts
-abbrev pub made : Shape → ℕ → List ℕ → Option Frame → ℕ → List ℕ → Job
+abbrev pub made : Shape → ℕ → List ℕ → Option Rectangle → ℕ → List ℕ → Job
 made s c cells f k steps = record { kind = s.kind; width = s.width; height = s.height; raws = take c cells; window = f; steps = map step_of (take k steps) }
 
 -- the words of the parts, behind each other
-joined : (s : Shape) (c k : ℕ) (f : Option Frame) (ws ws1 ws2 ws3 ws4 ws5 : List ℕ)
+joined : (s : Shape) (c k : ℕ) (f : Option Rectangle) (ws ws1 ws2 ws3 ws4 ws5 : List ℕ)
     → ws ≡ item_word (Head (Ok s.kind) s.width s.height) ∷ ws1
     → ws1 ≡ item_word (Cells (s.width * s.height)) ∷ ws2
     → ws2 ≡ take c ws2 ++ ws3
@@ -57,9 +58,9 @@ of_job n ws j k e t = subst (TheJob n ws) e t
 pub job_takes : (n : ℕ) (ws : List ℕ) (j : Job) → AreWords ws → job_from n ws ≡ Ok j → TheJob n ws j
 unfolding job_from
 job_takes n ws j fit e =
-    let sixth : Shape → ℕ × Left → Option Frame × Left → ℕ × Left → Left → Result Job StripFault = λ s c f k x. Ok (made s c.0 c.1.words f.0 k.0 f.1.words) in
-    let fifth : Shape → ℕ × Left → Option Frame × Left → ℕ × Left → Result Job StripFault = λ s c f k. ended n k.1 >>= sixth s c f k in
-    let fourth : Shape → ℕ × Left → Option Frame × Left → Result Job StripFault = λ s c f. steps_due f.1 >>= fifth s c f in
+    let sixth : Shape → ℕ × Left → Option Rectangle × Left → ℕ × Left → Left → Result Job StripFault = λ s c f k x. Ok (made s c.0 c.1.words f.0 k.0 f.1.words) in
+    let fifth : Shape → ℕ × Left → Option Rectangle × Left → ℕ × Left → Result Job StripFault = λ s c f k. ended n k.1 >>= sixth s c f k in
+    let fourth : Shape → ℕ × Left → Option Rectangle × Left → Result Job StripFault = λ s c f. steps_due f.1 >>= fifth s c f in
     let third : Shape → ℕ × Left → Left → Result Job StripFault = λ s c r. window_due r >>= fourth s c in
     let second : Shape → ℕ × Left → Result Job StripFault = λ s c. raws_due s.kind c.0 c.1 >>= third s c in
     let first : Shape × Left → Result Job StripFault = λ s. count_due (s.0.width * s.0.height) s.1 >>= second s.0 in

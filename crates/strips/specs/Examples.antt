@@ -23,7 +23,7 @@ worked_job = record {
   height = 1;
   raws = 7 ∷ 9 ∷ 4 ∷ [];
   window = None;
-  steps = Point 15 15 ∷ Point 16 15 ∷ Call Open ∷ [];
+  steps = Point (record { u = 15; v = 15 }) ∷ Point (record { u = 16; v = 15 }) ∷ Call Open ∷ [];
 }
 
 abbrev pub Worked : Type 0

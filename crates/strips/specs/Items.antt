@@ -43,7 +43,7 @@ extent_item b = option_map (λ p. Extent p.0 p.1) (pair b)
 
 -- bits 9 to 5 are u + 15, 4 to 0 are v + 15
 abbrev pub point_item : ℕ → Option Item
-point_item b = cond (nat_lt b (2 ^ 10)) (Some (Point (b / 2 ^ 5) (b % 2 ^ 5))) None
+point_item b = cond (nat_lt b (2 ^ 10)) (Some (Point (record { u = b / 2 ^ 5; v = b % 2 ^ 5 }))) None
 
 abbrev pub end_item : ℕ → Option Item
 end_item b = cond (b == 0) (Some End) None
@@ -67,7 +67,7 @@ item_word (Head k w h) = 1 * 2 ^ 28 + given_number k * 2 ^ 24 + w * 2 ^ 12 + h
 item_word (Cells n) = 2 * 2 ^ 28 + n
 item_word (Corner c r) = 3 * 2 ^ 28 + c * 2 ^ 12 + r
 item_word (Extent w h) = 4 * 2 ^ 28 + w * 2 ^ 12 + h
-item_word (Point u v) = 5 * 2 ^ 28 + u * 2 ^ 5 + v
+item_word (Point p) = 5 * 2 ^ 28 + p.u * 2 ^ 5 + p.v
 item_word (Call q) = 6 * 2 ^ 28 + filter_number q
 item_word End = 7 * 2 ^ 28
 
@@ -80,6 +80,6 @@ Fits (Head k w h) = IsGiven k × (w < 2 ^ 12) × (h < 2 ^ 12)
 Fits (Cells n) = n < 2 ^ 28
 Fits (Corner c r) = (c < 2 ^ 12) × (r < 2 ^ 12)
 Fits (Extent w h) = (w < 2 ^ 12) × (h < 2 ^ 12)
-Fits (Point u v) = (u < 2 ^ 5) × (v < 2 ^ 5)
+Fits (Point p) = (p.u < 2 ^ 5) × (p.v < 2 ^ 5)
 Fits (Call q) = Unit {0}
 Fits End = Unit {0}

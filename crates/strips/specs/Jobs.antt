@@ -4,8 +4,7 @@
 --     layout j           the bytes of its strip
 --     step_of w          the step that a word is
 --     first_step j       the word of the first step
---     asked f            the rectangle that a window asks for, from its corner on
---     point_of u v       the point of a mask that a step's fields mean
+--     point_of p         the point of a mask that a step's fields mean
 --     Sound j            the words of j say what j is
 --     Proper j           j has a strip
 use Rattle.std.specs.Prelude.{◌≡◌, ℕ, ◌+◌, ◌*◌, ◌^◌, ◌<◌, ◌≤◌, true, List, [], ◌∷◌, ◌++◌, length, map, Some, None, Ok, Option, IfSome, cond, nat_lt, pos, ◌-ℤ◌}
@@ -19,7 +18,7 @@ use Rattle.strips.specs.declared.kind.CellKind.{CellKind}
 use Rattle.strips.specs.declared.item.Item.{Item}
 use Rattle.strips.specs.declared.item.Item.TheVariants.{Head, Cells, Corner, Extent, End}
 use Rattle.strips.specs.declared.item.Item.TheVariants as items
-use Rattle.strips.specs.declared.parts.Frame.{Frame}
+use Rattle.strips.specs.declared.parts.PointFields.{PointFields}
 use Rattle.strips.specs.declared.parts.Step.{Step}
 use Rattle.strips.specs.declared.parts.Step.TheVariants as steps
 
@@ -29,31 +28,31 @@ pub record Job : Type 0 where
   pub width : ℕ
   pub height : ℕ
   pub raws : List ℕ
-  pub window : Option Frame
+  pub window : Option Rectangle
   pub steps : List Step
 
 -- the item of a step
 abbrev pub step_item : Step → Item
-step_item (steps.Point u v) = items.Point u v
+step_item (steps.Point p) = items.Point p
 step_item (steps.Call q) = items.Call q
 
 -- the step that a word is; nothing else is asked of it, and what is no step counts as the point 0 0
 abbrev pub step_by : Option Item → Step
-step_by (Some (items.Point u v)) = steps.Point u v
+step_by (Some (items.Point p)) = steps.Point p
 step_by (Some (items.Call q)) = steps.Call q
-step_by _ = steps.Point 0 0
+step_by _ = steps.Point (record { u = 0; v = 0 })
 
 abbrev pub step_of : ℕ → Step
 step_of w = step_by (item_of w)
 
-abbrev pub corner : Frame → Item
-corner f = Corner f.column f.row
+abbrev pub corner : Rectangle → Item
+corner f = Corner f.left f.top
 
-abbrev pub extent : Frame → Item
-extent f = Extent f.width f.height
+abbrev pub extent : Rectangle → Item
+extent f = Extent f.size.width f.size.height
 
 -- both words of a window, or none
-abbrev pub window_words : Option Frame → List ℕ
+abbrev pub window_words : Option Rectangle → List ℕ
 window_words None = []
 window_words (Some f) = item_word (corner f) ∷ item_word (extent f) ∷ []
 
@@ -80,12 +79,9 @@ step_place s n i = cond (nat_lt i n) (Some (s + i)) None
 abbrev pub first_step : Job → ℕ
 first_step j = 2 + length j.raws + length (window_words j.window)
 
-abbrev pub asked : Frame → Rectangle
-asked f = record { left = f.column; top = f.row; size = record { width = f.width; height = f.height } }
-
 -- the offset that a field of a point means
-abbrev pub point_of : ℕ → ℕ → Point
-point_of u v = record { u = pos u -ℤ pos 15; v = pos v -ℤ pos 15 }
+abbrev pub point_of : PointFields → Point
+point_of p = record { u = pos p.u -ℤ pos 15; v = pos p.v -ℤ pos 15 }
 
 -- a raw word that a strip of this kind may have
 abbrev pub IsRaw : CellKind → ℕ → Type 0

@@ -24,8 +24,9 @@ use Rattle.strips.specs.declared.kind.NoSuchKind.{NoSuchKind}
 use Rattle.strips.specs.declared.item.Item.{Item}
 use Rattle.strips.specs.declared.item.Item.TheVariants.{Head, Cells, Corner, Extent, Point, Call, End}
 use Rattle.strips.specs.declared.fault.StripFault.{StripFault}
-use Rattle.strips.specs.declared.fault.StripFault.TheVariants.{TooLong, CutShort, NoWord, OutOfOrder, NoKind, WrongCount, NoCell}
-use Rattle.strips.specs.declared.parts.Frame.{Frame}
+use Rattle.strips.specs.declared.fault.StripFault.TheVariants.{TooLong, At}
+use Rattle.strips.specs.declared.fault.Ground.TheVariants.{CutShort, NoWord, OutOfOrder, NoKind, WrongCount, NoCell}
+use Rattle.sheets.specs.declared.window.Rectangle.{Rectangle}
 use Rattle.strips.specs.declared.parts.Shape.{Shape}
 
 pub record Left : Type 0 where
@@ -42,7 +43,7 @@ abbrev pub ◌>>=◌ : {A B : Type 0} → Result A StripFault → (A → Result 
 
 -- 2: fewer than four bytes stand where a word is due
 abbrev pub word_from : ℕ → List ℕ → Result (ℕ × Left) StripFault
-word_from i [] = Err (CutShort i)
+word_from i [] = Err (At CutShort i)
 word_from i (w ∷ ws) = Ok (w, from (i + 1) ws)
 
 unfoldable pub word_due : Left → Result (ℕ × Left) StripFault
@@ -51,7 +52,7 @@ word_due l = word_from l.place l.words
 -- 3: the word says nothing
 abbrev pub said : ℕ → Option Item → Result Item StripFault
 said i (Some x) = Ok x
-said i None = Err (NoWord i)
+said i None = Err (At NoWord i)
 
 unfoldable pub item_due : Left → Result (Item × Left) StripFault
 item_due l = do
@@ -62,11 +63,11 @@ item_due l = do
 -- 4: the word is no head; 5: it has the number of no kind of cell
 abbrev pub shape_by : ℕ → Result CellKind NoSuchKind → ℕ → ℕ → Result Shape StripFault
 shape_by i (Ok k) w h = Ok (record { kind = k; width = w; height = h })
-shape_by i (Err n) w h = Err (NoKind i)
+shape_by i (Err n) w h = Err (At NoKind i)
 
 abbrev pub shape_of : ℕ → Item → Result Shape StripFault
 shape_of i (Head k w h) = shape_by i k w h
-shape_of i _ = Err (OutOfOrder i)
+shape_of i _ = Err (At OutOfOrder i)
 
 unfoldable pub shape_due : Left → Result (Shape × Left) StripFault
 shape_due l = do
@@ -76,8 +77,8 @@ shape_due l = do
 
 -- 4: the word is no cells word; 5: it has another count
 abbrev pub count_of : ℕ → ℕ → Item → Result ℕ StripFault
-count_of n i (Cells m) = cond (m == n) (Ok n) (Err (WrongCount i))
-count_of n i _ = Err (OutOfOrder i)
+count_of n i (Cells m) = cond (m == n) (Ok n) (Err (At WrongCount i))
+count_of n i _ = Err (At OutOfOrder i)
 
 unfoldable pub count_due : ℕ → Left → Result (ℕ × Left) StripFault
 count_due n l = do
@@ -87,7 +88,7 @@ count_due n l = do
 
 -- 6: the raw word is no cell
 abbrev pub cell_of : CellKind → ℕ → ℕ → Result ℕ StripFault
-cell_of k i w = cond (is_cell k w) (Ok w) (Err (NoCell i))
+cell_of k i w = cond (is_cell k w) (Ok w) (Err (At NoCell i))
 
 unfoldable pub cell_due : CellKind → Left → Result (ℕ × Left) StripFault
 cell_due k l = do
@@ -104,34 +105,34 @@ raws_due k (suc n) l = do
 -- 4: the word is no corner, or no extent
 abbrev pub corner_of : ℕ → Item → Result (ℕ × ℕ) StripFault
 corner_of i (Corner c r) = Ok (c, r)
-corner_of i _ = Err (OutOfOrder i)
+corner_of i _ = Err (At OutOfOrder i)
 
 abbrev pub extent_of : ℕ → Item → Result (ℕ × ℕ) StripFault
 extent_of i (Extent w h) = Ok (w, h)
-extent_of i _ = Err (OutOfOrder i)
+extent_of i _ = Err (At OutOfOrder i)
 
-unfoldable pub frame_due : Left → Result (Frame × Left) StripFault
+unfoldable pub frame_due : Left → Result (Rectangle × Left) StripFault
 frame_due l = do
   x ← item_due l
   c ← corner_of l.place x.0
   y ← item_due x.1
   e ← extent_of x.1.place y.0
-  Ok (record { column = c.0; row = c.1; width = e.0; height = e.1 }, y.1)
+  Ok (record { left = c.0; top = c.1; size = record { width = e.0; height = e.1 } }, y.1)
 
 -- a corner word stands there
 abbrev pub begins : List ℕ → Bool
 begins [] = false
 begins (w ∷ ws) = kind w == 3
 
-unfoldable pub window_due : Left → Result (Option Frame × Left) StripFault
+unfoldable pub window_due : Left → Result (Option Rectangle × Left) StripFault
 window_due l = cond (begins l.words) (frame_due l >>= λ f. Ok (Some f.0, f.1)) (Ok (None, l))
 
 -- a point and a call are steps, the end is none; 4: the word is another
 abbrev pub is_step : ℕ → Item → Result Bool StripFault
-is_step i (Point u v) = Ok true
+is_step i (Point p) = Ok true
 is_step i (Call q) = Ok true
 is_step i End = Ok false
-is_step i _ = Err (OutOfOrder i)
+is_step i _ = Err (At OutOfOrder i)
 
 unfoldable pub step_due : Left → Result (Bool × Left) StripFault
 step_due l = do
@@ -143,7 +144,7 @@ abbrev pub one_more : ℕ × Left → Result (ℕ × Left) StripFault
 one_more n = Ok (n.0 + 1, n.1)
 
 unfoldable pub steps_from : ℕ → List ℕ → Result (ℕ × Left) StripFault
-steps_from i [] = Err (CutShort i)
+steps_from i [] = Err (At CutShort i)
 steps_from i (w ∷ ws) = do
   b ← step_due (from i (w ∷ ws))
   cond b.0 (steps_from (i + 1) ws >>= one_more) (Ok (0, b.1))
@@ -157,7 +158,7 @@ none_left [] = true
 none_left (w ∷ ws) = false
 
 abbrev pub ended : ℕ → Left → Result Left StripFault
-ended n l = cond (none_left l.words && n == 0) (Ok l) (Err (OutOfOrder l.place))
+ended n l = cond (none_left l.words && n == 0) (Ok l) (Err (At OutOfOrder l.place))
 
 -- part by part; the raw words and the steps are taken from where they were passed
 unfoldable pub job_from : ℕ → List ℕ → Result Job StripFault

@@ -4,14 +4,17 @@
 --     GivesAs f d s t r  the same, where f reads what is told from the answer
 --     Passes d s t r     the same, where nothing but what is left is told
 --     job_of s           the job that an accepted strip tells
+--     steps_left s       the steps that are left
 --     Reads r a          a, the reader's answer, is the reading r
-use Rattle.std.specs.Prelude.{◌≡◌, map, Ok, Err, Result}
+use Rattle.std.specs.Prelude.{◌≡◌, List, map, Ok, Err, Result}
 use Rattle.strips.specs.Words.{numbers}
 use Rattle.strips.specs.Jobs.{Job, step_of}
 use Rattle.strips.specs.Reading.{Left, from}
 use Rattle.strips.specs.declared.fault.StripFault.{StripFault}
 use Rattle.strips.specs.declared.strip.Strip.{Strip}
 use Rattle.strips.specs.declared.job.JobStrip.{JobStrip}
+use Rattle.strips.specs.declared.job.Steps.{Steps}
+use Rattle.strips.specs.declared.parts.Step.{Step}
 
 abbrev pub left : Strip → Left
 left s = from s.place (numbers s.words.now)
@@ -37,6 +40,9 @@ job_of s = record {
   window = s.window;
   steps = map step_of (numbers s.steps.now);
 }
+
+abbrev pub steps_left : Steps → List Step
+steps_left s = map step_of (numbers s.words.now)
 
 abbrev pub Reads : Result Job StripFault → Result JobStrip StripFault → Type 0
 Reads r (Ok s) = r ≡ Ok (job_of s)

@@ -2,9 +2,10 @@
 ghost use Rattle.std.specs.Prelude.{◌≡◌, ◌<◌, ◌^◌, Some, ok_or};
 ghost use Rattle.std.specs.Option.{option_map};
 ghost use Rattle.strips.specs.Items.{filter_of, head_item, pair, point_item, end_item, item_by, item_of};
-ghost use Rattle.strips.specs.declared.item.Item.TheVariants.{Call};
+ghost use Rattle.strips.specs.declared.item.Item.TheVariants.{Point};
 
 use crate::kind::{CellKind, NoSuchKind};
+use crate::parts::PointFields;
 use morphology::call::Filter;
 
 // What a word says, by its kind.
@@ -28,11 +29,8 @@ pub enum Item {
         width: u32,
         height: u32,
     },
-    // A point of a mask, its u and its v counted from -15.
-    Point {
-        u: u8,
-        v: u8,
-    },
+    // A point of a mask.
+    Point(PointFields),
     // A filter under the mask.
     Call(Filter),
     // Nothing follows.
@@ -42,6 +40,31 @@ pub enum Item {
 // A word that says nothing: its kind is not 1 to 7, its call not 1 to 4, or an unused bit is set.
 #[derive(Clone, Copy, PartialEq, Eq, Debug)]
 pub struct SaysNothing(pub u32);
+
+// The number of a call.
+#[derive(Clone, Copy, PartialEq, Eq, Debug)]
+pub struct CallNumber(pub u32);
+
+// A number that no call has.
+#[derive(Clone, Copy, PartialEq, Eq, Debug)]
+pub struct NoSuchCall(pub u32);
+
+// The filter that is called by that number, if there is one.
+impl TryFrom<CallNumber> for Filter {
+    type Error = NoSuchCall;
+
+    ghost try_from_gives = { λ n r. r ≡ ok_or (filter_of n.0) (record { 0 = n.0 }) };
+
+    fn try_from(number: CallNumber) -> Result<Filter, NoSuchCall> {
+        match number.0 {
+            1 => Ok(Filter::Erode),
+            2 => Ok(Filter::Dilate),
+            3 => Ok(Filter::Open),
+            4 => Ok(Filter::Close),
+            n => Err(NoSuchCall(n)),
+        }
+    }
+}
 
 impl TryFrom<u32> for Item {
     type Error = SaysNothing;
@@ -64,8 +87,8 @@ fn item_by(kind: u32, body: u32) -> Option<Item>
         2 => Some(Item::Cells(body)),
         3 => pair(body).map(|(column, row)| Item::Corner { column, row }),
         4 => pair(body).map(|(width, height)| Item::Extent { width, height }),
-        5 => point(body),
-        6 => call(body),
+        5 => point(body).map(Item::Point),
+        6 => Filter::try_from(CallNumber(body)).ok().map(Item::Call),
         7 => end(body),
         _ => None,
     }
@@ -87,43 +110,22 @@ fn head(body: u32) -> Item
 fn pair(body: u32) -> Option<(u32, u32)>
     ensures { result ≡ pair body }
 {
-    if body < 0x100_0000 {
-        Some((body / 0x1000, body % 0x1000))
-    } else {
-        None
-    }
+    (body < 0x100_0000).then_some((body / 0x1000, body % 0x1000))
 }
 
 // Bits 9 to 5 are u + 15, 4 to 0 are v + 15, and the others are 0.
-fn point(body: u32) -> Option<Item>
-    ensures { result ≡ point_item body }
+fn point(body: u32) -> Option<PointFields>
+    ensures { option_map Point result ≡ point_item body }
 {
-    if body < 0x400 {
-        Some(Item::Point {
-            u: (body / 0x20) as u8,
-            v: (body % 0x20) as u8,
-        })
-    } else {
-        None
-    }
-}
-
-// The body is the number of the filter.
-fn call(body: u32) -> Option<Item>
-    ensures { result ≡ option_map Call (filter_of body) }
-{
-    match body {
-        1 => Some(Item::Call(Filter::Erode)),
-        2 => Some(Item::Call(Filter::Dilate)),
-        3 => Some(Item::Call(Filter::Open)),
-        4 => Some(Item::Call(Filter::Close)),
-        _ => None,
-    }
+    (body < 0x400).then(|| PointFields {
+        u: (body / 0x20) as u8,
+        v: (body % 0x20) as u8,
+    })
 }
 
 // The body is 0.
 fn end(body: u32) -> Option<Item>
     ensures { result ≡ end_item body }
 {
-    if body == 0 { Some(Item::End) } else { None }
+    (body == 0).then_some(Item::End)
 }

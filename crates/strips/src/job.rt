@@ -1,18 +1,20 @@
 // A job, read from its strip.
 ghost use Rattle.std.specs.Prelude.{◌≡◌, ◌+◌, ◌^◌, ◌<◌, length, IfOk, IfErr, Ok};
 ghost use Rattle.std.specs.List.{slice_get};
+ghost use Rattle.std.specs.Iterator.{YieldsFirst, item_count};
 ghost use Rattle.strips.specs.Words.{numbers};
 ghost use Rattle.strips.specs.Reading.{reading, job_from};
 ghost use Rattle.strips.specs.Jobs.{Job, first_step, step_of, step_place};
-ghost use Rattle.strips.specs.Views.{job_of, Reads};
+ghost use Rattle.strips.specs.Views.{job_of, steps_left, Reads};
 ghost use Rattle.strips.specs.Laws.{Told, TellsFirst, TellsGround};
 
 use crate::fault::StripFault;
 use crate::item::Item;
 use crate::kind::CellKind;
-use crate::parts::{Frame, Shape, Step};
+use crate::parts::{PointFields, Shape, Step};
 use crate::strip::Strip;
 use crate::words::word_at;
+use sheets::window::Rectangle;
 
 // The most bytes that a strip has.
 const MOST: usize = 65_536;
@@ -23,7 +25,7 @@ pub struct JobStrip<'a> {
     shape: Shape,
     // The raw words of the cells, row by row.
     raws: &'a [[u8; 4]],
-    window: Option<Frame>,
+    window: Option<Rectangle>,
     // The words of the steps.
     steps: &'a [[u8; 4]],
 }
@@ -65,7 +67,7 @@ impl JobStrip<'_> {
     }
 
     // The window of the sheet, if there is one.
-    pub fn window(&self) -> Option<Frame>
+    pub fn window(&self) -> Option<Rectangle>
         ensures { result ≡ (job_of self.now).window }
     {
         self.window
@@ -86,18 +88,48 @@ impl JobStrip<'_> {
         word_at(self.steps, i).map(step_of)
     }
 
+    // The steps, one after the other.
+    pub fn each_step(&self) -> Steps<'_>
+        ensures { steps_left result ≡ (job_of self.now).steps }
+    {
+        Steps { words: self.steps }
+    }
+
+    // The number of the word that is the first step, or the end word if there is none.
+    pub fn first_step(&self) -> usize
+        ensures answer { result ≡ first_step (job_of self.now) }
+        ensures within { result + length (job_of self.now).steps < 2 ^ 63 }
+    {
+        // The head and the cells word, the raw words, and the two words of a window stand before it.
+        2 + self.raws.len() + self.window.map_or(0, |_| 2)
+    }
+
     // The number of the word that is the i-th step.
     pub fn step_place(&self, i: usize) -> Option<usize>
         ensures { result ≡ step_place (first_step (job_of self.now)) (length (job_of self.now).steps) i }
     {
-        // The head and the cells word, the raw words, and the two words of a window stand before it.
-        let window = if self.window.is_some() { 2 } else { 0 };
-        let first = 2 + self.raws.len() + window;
-        if i < self.steps.len() {
-            Some(first + i)
-        } else {
-            None
-        }
+        let first = self.first_step();
+        (i < self.steps.len()).then(|| first + i)
+    }
+}
+
+// The steps of a job, of which those that were given are gone.
+#[derive(Clone, Copy)]
+pub struct Steps<'a> {
+    words: &'a [[u8; 4]],
+}
+
+impl Iterator for Steps<'_> {
+    type Item = Step;
+
+    ghost next_gives = { YieldsFirst steps_left };
+
+    ghost remaining = { item_count steps_left };
+
+    fn next(&mut self) -> Option<Step> {
+        let (first, rest) = self.words.split_first()?;
+        self.words = rest;
+        Some(step_of(u32::from_be_bytes(*first)))
     }
 }
 
@@ -106,9 +138,9 @@ fn step_of(word: u32) -> Step
     ensures { result ≡ step_of word }
 {
     match Item::try_from(word) {
-        Ok(Item::Point { u, v }) => Step::Point { u, v },
+        Ok(Item::Point(fields)) => Step::Point(fields),
         Ok(Item::Call(filter)) => Step::Call(filter),
-        _ => Step::Point { u: 0, v: 0 },
+        _ => Step::Point(PointFields { u: 0, v: 0 }),
     }
 }
 

@@ -1,12 +1,10 @@
 // The parts of a job.
 ghost use Rattle.std.specs.Prelude.{◌≡◌};
-ghost use Rattle.strips.specs.Jobs.{asked, point_of};
+ghost use Rattle.strips.specs.Jobs.{point_of};
 
 use crate::kind::CellKind;
 use masks::point::Point;
 use morphology::call::Filter;
-use sheets::holder::Size;
-use sheets::window::Rectangle;
 
 // What a head says of the sheet.
 #[derive(Clone, Copy, PartialEq, Eq, Debug)]
@@ -16,27 +14,21 @@ pub struct Shape {
     pub height: u32,
 }
 
-// A window of the sheet: the corner where it begins, and its extent.
+// The fields of a point, its u and its v counted from -15.
 #[derive(Clone, Copy, PartialEq, Eq, Debug)]
-pub struct Frame {
-    pub column: u32,
-    pub row: u32,
-    pub width: u32,
-    pub height: u32,
+pub struct PointFields {
+    pub u: u8,
+    pub v: u8,
 }
 
-// The rectangle that a window asks for.
-impl From<Frame> for Rectangle {
-    ghost from_gives = { λ f r. r ≡ asked f };
+// The point of a mask that the fields mean. One beyond 15 comes of a field of 31.
+impl From<PointFields> for Point {
+    ghost from_gives = { λ p r. r ≡ point_of p };
 
-    fn from(frame: Frame) -> Rectangle {
-        Rectangle {
-            left: frame.column as usize,
-            top: frame.row as usize,
-            size: Size {
-                width: frame.width as usize,
-                height: frame.height as usize,
-            },
+    fn from(fields: PointFields) -> Point {
+        Point {
+            u: i32::from(fields.u) - 15,
+            v: i32::from(fields.v) - 15,
         }
     }
 }
@@ -44,18 +36,8 @@ impl From<Frame> for Rectangle {
 // A step of the job.
 #[derive(Clone, Copy, PartialEq, Eq, Debug)]
 pub enum Step {
-    // A point of a mask, its u and its v counted from -15.
-    Point { u: u8, v: u8 },
+    // A point of a mask.
+    Point(PointFields),
     // A filter under the mask.
     Call(Filter),
-}
-
-// The point of a mask that these fields of a step mean. One beyond 15 comes of a field of 31.
-pub fn point_of(u: u8, v: u8) -> Point
-    ensures { result ≡ point_of u v }
-{
-    Point {
-        u: i32::from(u) - 15,
-        v: i32::from(v) - 15,
-    }
 }

@@ -3,10 +3,12 @@ ghost use Rattle.std.specs.Prelude.{◌≡◌, ◌+◌, ◌^◌, ◌<◌, length
 ghost use Rattle.strips.specs.Words.{kind, numbers};
 ghost use Rattle.strips.specs.Reading.{cell_of, shape_of, count_of, corner_of, extent_of, is_step};
 
-use crate::fault::StripFault;
+use crate::fault::{Ground, StripFault};
 use crate::item::Item;
 use crate::kind::CellKind;
-use crate::parts::{Frame, Shape};
+use crate::parts::Shape;
+use sheets::holder::Size;
+use sheets::window::Rectangle;
 
 // What is left of a strip: its words, and the number of the first of them.
 #[derive(Drop)]
@@ -26,7 +28,10 @@ impl<'a> Strip<'a> {
         ensures place { IfOk result (λ w. w.place ≡ self.old.place) }
     {
         let place = self.place;
-        let (word, rest) = self.words.split_first().ok_or(StripFault::CutShort(place))?;
+        let (word, rest) = self
+            .words
+            .split_first()
+            .ok_or(StripFault::At(Ground::CutShort, place))?;
         self.words = rest;
         self.place += 1;
         let said = u32::from_be_bytes(*word);
@@ -40,7 +45,7 @@ impl<'a> Strip<'a> {
         ensures place { IfOk result (λ x. x.place ≡ self.old.place) }
     {
         let Placed { said, place } = self.word()?;
-        let said = Item::try_from(said).map_err(|_| StripFault::NoWord(place))?;
+        let said = Item::try_from(said).map_err(|_| StripFault::At(Ground::NoWord, place))?;
         Ok(Placed { said, place })
     }
 
@@ -83,16 +88,18 @@ impl<'a> Strip<'a> {
 
     // Takes the corner and the extent of a window.
     #[tactic(auto, unfolding(crate::specs::Reading::frame_due))]
-    fn frame(&mut self) -> Result<Frame, StripFault>
+    fn frame(&mut self) -> Result<Rectangle, StripFault>
         ensures { Gives frame_due self.old self.new result }
     {
         let (column, row) = self.item()?.corner()?;
         let (width, height) = self.item()?.extent()?;
-        Ok(Frame {
-            column,
-            row,
-            width,
-            height,
+        Ok(Rectangle {
+            left: column as usize,
+            top: row as usize,
+            size: Size {
+                width: width as usize,
+                height: height as usize,
+            },
         })
     }
 
@@ -107,7 +114,7 @@ impl<'a> Strip<'a> {
 
     // Takes the window, if a corner stands there.
     #[tactic(auto, unfolding(crate::specs::Reading::window_due))]
-    pub(crate) fn window(&mut self) -> Result<Option<Frame>, StripFault>
+    pub(crate) fn window(&mut self) -> Result<Option<Rectangle>, StripFault>
         ensures { Gives window_due self.old self.new result }
     {
         if self.begins() {
@@ -143,7 +150,7 @@ impl<'a> Strip<'a> {
         if self.words.is_empty() && over.is_empty() {
             Ok(())
         } else {
-            Err(StripFault::OutOfOrder(self.place))
+            Err(StripFault::At(Ground::OutOfOrder, self.place))
         }
     }
 }
@@ -170,7 +177,7 @@ impl Placed<u32> {
         let Placed { said, place } = self;
         kind.has(said)
             .then_some(said)
-            .ok_or(StripFault::NoCell(place))
+            .ok_or(StripFault::At(Ground::NoCell, place))
     }
 }
 
@@ -185,9 +192,9 @@ impl Placed<Item> {
             height,
         } = self.said
         else {
-            return Err(StripFault::OutOfOrder(self.place));
+            return Err(StripFault::At(Ground::OutOfOrder, self.place));
         };
-        let kind = kind.map_err(|_| StripFault::NoKind(self.place))?;
+        let kind = kind.map_err(|_| StripFault::At(Ground::NoKind, self.place))?;
         Ok(Shape {
             kind,
             width,
@@ -201,8 +208,8 @@ impl Placed<Item> {
     {
         match self.said {
             Item::Cells(count) if count == cells => Ok(cells),
-            Item::Cells(_) => Err(StripFault::WrongCount(self.place)),
-            _ => Err(StripFault::OutOfOrder(self.place)),
+            Item::Cells(_) => Err(StripFault::At(Ground::WrongCount, self.place)),
+            _ => Err(StripFault::At(Ground::OutOfOrder, self.place)),
         }
     }
 
@@ -212,7 +219,7 @@ impl Placed<Item> {
     {
         match self.said {
             Item::Corner { column, row } => Ok((column, row)),
-            _ => Err(StripFault::OutOfOrder(self.place)),
+            _ => Err(StripFault::At(Ground::OutOfOrder, self.place)),
         }
     }
 
@@ -222,7 +229,7 @@ impl Placed<Item> {
     {
         match self.said {
             Item::Extent { width, height } => Ok((width, height)),
-            _ => Err(StripFault::OutOfOrder(self.place)),
+            _ => Err(StripFault::At(Ground::OutOfOrder, self.place)),
         }
     }
 
@@ -231,9 +238,9 @@ impl Placed<Item> {
         ensures { result ≡ is_step self.place self.said }
     {
         match self.said {
-            Item::Point { .. } | Item::Call(_) => Ok(true),
+            Item::Point(_) | Item::Call(_) => Ok(true),
             Item::End => Ok(false),
-            _ => Err(StripFault::OutOfOrder(self.place)),
+            _ => Err(StripFault::At(Ground::OutOfOrder, self.place)),
         }
     }
 }

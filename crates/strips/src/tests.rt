@@ -1,10 +1,12 @@
 // Strips in words: one that is accepted, and each refusal once.
-use crate::fault::StripFault;
+use crate::fault::{Ground, StripFault};
 use crate::job::read;
 use crate::kind::CellKind;
-use crate::parts::{Frame, Step, point_of};
+use crate::parts::{PointFields, Step};
 use masks::point::Point;
 use morphology::call::Filter;
+use sheets::holder::Size;
+use sheets::window::Rectangle;
 use std::alloc::{AllocError, Global};
 use std::test::Fail;
 
@@ -39,10 +41,7 @@ fn spelled(heap: Global, words: &[u32]) -> Result<Vec<u8>, AllocError> {
 // Whether these words are refused so.
 fn refused(heap: Global, words: &[u32], fault: StripFault) -> Result<bool, AllocError> {
     let bytes = spelled(heap, words)?;
-    Ok(match read(bytes.as_slice()) {
-        Ok(_) => false,
-        Err(found) => found == fault,
-    })
+    Ok(read(bytes.as_slice()).is_err_and(|found| found == fault))
 }
 
 // Whether these words are accepted.
@@ -75,7 +74,10 @@ fn the_worked_strip_is_accepted(rt: HostRuntime) -> Result<(), Fail> {
             assert_eq!(rt; job.raw(3), None);
             assert_eq!(rt; job.window(), None);
             assert_eq!(rt; job.steps(), 3);
-            assert_eq!(rt; job.step(1), Some(Step::Point { u: 16, v: 15 }));
+            assert_eq!(rt;
+                job.step(1),
+                Some(Step::Point(PointFields { u: 16, v: 15 }))
+            );
             assert_eq!(rt; job.step(2), Some(Step::Call(Filter::Open)));
             assert_eq!(rt; job.step_place(2), Some(7));
             assert_eq!(rt; job.step(3), None);
@@ -104,18 +106,23 @@ fn a_window_and_a_mask_of_height_cells(rt: HostRuntime) -> Result<(), Fail> {
             assert_eq!(rt; job.kind(), CellKind::Height);
             assert_eq!(rt;
                 job.window(),
-                Some(Frame {
-                    column: 1,
-                    row: 0,
-                    width: 1,
-                    height: 1,
+                Some(Rectangle {
+                    left: 1,
+                    top: 0,
+                    size: Size {
+                        width: 1,
+                        height: 1,
+                    },
                 })
             );
             assert_eq!(rt; job.step(0), Some(Step::Call(Filter::Close)));
             // A field of 31 is no fault of the strip.
-            assert_eq!(rt; job.step(1), Some(Step::Point { u: 31, v: 0 }));
+            assert_eq!(rt; job.step(1), Some(Step::Point(PointFields { u: 31, v: 0 })));
             assert_eq!(rt; job.step_place(1), Some(7));
-            assert_eq!(rt; point_of(31, 0), Point { u: 16, v: -15 });
+            assert_eq!(rt;
+                Point::from(PointFields { u: 31, v: 0 }),
+                Point { u: 16, v: -15 }
+            );
         }
         Err(_) => assert!(rt; false),
     }
@@ -124,51 +131,72 @@ fn a_window_and_a_mask_of_height_cells(rt: HostRuntime) -> Result<(), Fail> {
 
 #[test]
 fn a_word_that_is_due_stands_whole(rt: HostRuntime) -> Result<(), Fail> {
-    assert!(rt; refused(rt.alloc(), &[], StripFault::CutShort(0))?);
-    assert!(rt; refused(rt.alloc(), &[NO_SHEET, NO_CELLS], StripFault::CutShort(2))?);
+    assert!(rt; refused(rt.alloc(), &[], StripFault::At(Ground::CutShort, 0))?);
+    assert!(rt;
+        refused(
+            rt.alloc(),
+            &[NO_SHEET, NO_CELLS],
+            StripFault::At(Ground::CutShort, 2)
+        )?
+    );
     assert!(rt;
         refused(
             rt.alloc(),
             &[0x1100_1001, 0x2000_0001, 7],
-            StripFault::CutShort(3)
+            StripFault::At(Ground::CutShort, 3)
         )?
     );
-    assert_eq!(rt; read(&[0x11, 0, 0]).err(), Some(StripFault::CutShort(0)));
+    assert_eq!(rt;
+        read(&[0x11, 0, 0]).err(),
+        Some(StripFault::At(Ground::CutShort, 0))
+    );
     Ok(())
 }
 
 #[test]
 fn a_word_is_one_of_the_seven(rt: HostRuntime) -> Result<(), Fail> {
-    assert!(rt; refused(rt.alloc(), &[0], StripFault::NoWord(0))?);
-    assert!(rt; refused(rt.alloc(), &[0x8000_0000], StripFault::NoWord(0))?);
+    assert!(rt; refused(rt.alloc(), &[0], StripFault::At(Ground::NoWord, 0))?);
+    assert!(rt;
+        refused(
+            rt.alloc(),
+            &[0x8000_0000],
+            StripFault::At(Ground::NoWord, 0)
+        )?
+    );
     // An unused bit of a word that is not due is told first.
-    assert!(rt; refused(rt.alloc(), &[0x3100_0000], StripFault::NoWord(0))?);
+    assert!(rt;
+        refused(
+            rt.alloc(),
+            &[0x3100_0000],
+            StripFault::At(Ground::NoWord, 0)
+        )?
+    );
     assert!(rt;
         refused(
             rt.alloc(),
             &[NO_SHEET, NO_CELLS, 0x5000_0400],
-            StripFault::NoWord(2)
+            StripFault::At(Ground::NoWord, 2)
         )?
     );
     assert!(rt;
         refused(
             rt.alloc(),
             &[NO_SHEET, NO_CELLS, 0x6000_0000],
-            StripFault::NoWord(2)
+            StripFault::At(Ground::NoWord, 2)
         )?
     );
     assert!(rt;
         refused(
             rt.alloc(),
             &[NO_SHEET, NO_CELLS, 0x6000_0005],
-            StripFault::NoWord(2)
+            StripFault::At(Ground::NoWord, 2)
         )?
     );
     assert!(rt;
         refused(
             rt.alloc(),
             &[NO_SHEET, NO_CELLS, 0x7000_0001],
-            StripFault::NoWord(2)
+            StripFault::At(Ground::NoWord, 2)
         )?
     );
     Ok(())
@@ -176,20 +204,20 @@ fn a_word_is_one_of_the_seven(rt: HostRuntime) -> Result<(), Fail> {
 
 #[test]
 fn a_word_is_due_where_it_stands(rt: HostRuntime) -> Result<(), Fail> {
-    assert!(rt; refused(rt.alloc(), &[END], StripFault::OutOfOrder(0))?);
+    assert!(rt; refused(rt.alloc(), &[END], StripFault::At(Ground::OutOfOrder, 0))?);
     // A head that is not due is out of order, whatever its kind of cell.
     assert!(rt;
         refused(
             rt.alloc(),
             &[NO_SHEET, 0x1900_0000],
-            StripFault::OutOfOrder(1)
+            StripFault::At(Ground::OutOfOrder, 1)
         )?
     );
     assert!(rt;
         refused(
             rt.alloc(),
             &[NO_SHEET, NO_CELLS, END, END],
-            StripFault::OutOfOrder(3)
+            StripFault::At(Ground::OutOfOrder, 3)
         )?
     );
     let corner = 0x3000_0000;
@@ -198,28 +226,28 @@ fn a_word_is_due_where_it_stands(rt: HostRuntime) -> Result<(), Fail> {
         refused(
             rt.alloc(),
             &[NO_SHEET, NO_CELLS, corner, END],
-            StripFault::OutOfOrder(3)
+            StripFault::At(Ground::OutOfOrder, 3)
         )?
     );
     assert!(rt;
         refused(
             rt.alloc(),
             &[NO_SHEET, NO_CELLS, extent, END],
-            StripFault::OutOfOrder(2)
+            StripFault::At(Ground::OutOfOrder, 2)
         )?
     );
     assert!(rt;
         refused(
             rt.alloc(),
             &[NO_SHEET, NO_CELLS, corner, extent, corner],
-            StripFault::OutOfOrder(4)
+            StripFault::At(Ground::OutOfOrder, 4)
         )?
     );
     assert!(rt;
         refused(
             rt.alloc(),
             &[NO_SHEET, NO_CELLS, ORIGIN, corner],
-            StripFault::OutOfOrder(3)
+            StripFault::At(Ground::OutOfOrder, 3)
         )?
     );
     Ok(())
@@ -233,7 +261,7 @@ fn bytes_behind_the_end_are_the_next_word(rt: HostRuntime) -> Result<(), Fail> {
         bytes.push(0)?;
         assert_eq!(rt;
             read(bytes.as_slice()).err(),
-            Some(StripFault::OutOfOrder(3))
+            Some(StripFault::At(Ground::OutOfOrder, 3))
         );
     }
     Ok(())
@@ -241,13 +269,25 @@ fn bytes_behind_the_end_are_the_next_word(rt: HostRuntime) -> Result<(), Fail> {
 
 #[test]
 fn a_head_has_a_kind_and_its_count(rt: HostRuntime) -> Result<(), Fail> {
-    assert!(rt; refused(rt.alloc(), &[0x1000_0000], StripFault::NoKind(0))?);
-    assert!(rt; refused(rt.alloc(), &[0x1500_0000], StripFault::NoKind(0))?);
+    assert!(rt;
+        refused(
+            rt.alloc(),
+            &[0x1000_0000],
+            StripFault::At(Ground::NoKind, 0)
+        )?
+    );
+    assert!(rt;
+        refused(
+            rt.alloc(),
+            &[0x1500_0000],
+            StripFault::At(Ground::NoKind, 0)
+        )?
+    );
     assert!(rt;
         refused(
             rt.alloc(),
             &[0x1100_3001, 0x2000_0004],
-            StripFault::WrongCount(1)
+            StripFault::At(Ground::WrongCount, 1)
         )?
     );
     // A count that is right, and too large for the strip, is told where a cell is missing or none.
@@ -255,14 +295,14 @@ fn a_head_has_a_kind_and_its_count(rt: HostRuntime) -> Result<(), Fail> {
         refused(
             rt.alloc(),
             &[0x11ff_ffff, 0x20ff_e001],
-            StripFault::CutShort(2)
+            StripFault::At(Ground::CutShort, 2)
         )?
     );
     assert!(rt;
         refused(
             rt.alloc(),
             &[0x11ff_ffff, 0x20ff_e001, 256],
-            StripFault::NoCell(2)
+            StripFault::At(Ground::NoCell, 2)
         )?
     );
     Ok(())
@@ -276,14 +316,14 @@ fn a_raw_word_is_a_cell_of_its_kind(rt: HostRuntime) -> Result<(), Fail> {
         refused(
             rt.alloc(),
             &[0x1100_1001, one, 256, END],
-            StripFault::NoCell(2)
+            StripFault::At(Ground::NoCell, 2)
         )?
     );
     assert!(rt;
         refused(
             rt.alloc(),
             &[0x1300_1001, one, 256, END],
-            StripFault::NoCell(2)
+            StripFault::At(Ground::NoCell, 2)
         )?
     );
     assert!(rt; accepted(rt.alloc(), &[0x1200_1001, one, 0xffff_ffff, END])?);
@@ -292,7 +332,7 @@ fn a_raw_word_is_a_cell_of_its_kind(rt: HostRuntime) -> Result<(), Fail> {
         refused(
             rt.alloc(),
             &[0x1400_1001, one, 0x7f80_0001, END],
-            StripFault::NoCell(2)
+            StripFault::At(Ground::NoCell, 2)
         )?
     );
     assert!(rt; accepted(rt.alloc(), &[0x1400_1001, one, 0x8000_0000, END])?);
@@ -325,7 +365,7 @@ fn a_strip_has_at_most_65536_bytes(rt: HostRuntime) -> Result<(), Fail> {
 
 #[test]
 fn a_refusal_is_told_by_number_and_word(rt: HostRuntime) -> Result<(), Fail> {
-    let text = format!(in rt.alloc(); "{}", StripFault::NoCell(5))?;
+    let text = format!(in rt.alloc(); "{}", StripFault::At(Ground::NoCell, 5))?;
     assert_eq!(rt;
         text.as_str(),
         "refused 6: word 5: the word is no cell of the head's kind"

@@ -1,13 +1,14 @@
--- The steps from step i on, behind the open run, lead to the same acts; the run ends at word start + i.
-use Rattle.std.proofs.Common.{◌≡◌, ◌+◌, ◌++◌, List, [], length, drop}
-use Rattle.strips.specs.Jobs.{first_step}
-use Rattle.strips.specs.Views.{job_of}
-use Rattle.jobs.specs.Acts.{acts, Alike}
-use Rattle.jobs.specs.declared.act.Act.{Act}
+-- The steps that are left, behind the open run, lead to the same acts; their words have numbers.
+use Rattle.std.proofs.Common.{◌+◌, ◌<◌, ◌^◌, length}
+use Rattle.strips.specs.Views.{job_of, steps_left}
+use Rattle.jobs.specs.Acts.{acts, job_acts}
+use Rattle.jobs.proofs.Steps.{Leads}
 use Rattle.jobs.proofs.act.acts_of.Given as goal
 
-abbrev pub invariant-loop-i : goal.invariant-loop-i
-invariant-loop-i l = record {
-  leads : (more : List Act) → Alike more (acts l.first l.run.items (drop l.i (job_of l.job).steps)) → Alike (l.acts.items ++ more) (acts (first_step (job_of l.job)) [] (job_of l.job).steps);
-  words : l.first + length l.run.items ≡ l.start + l.i;
+abbrev pub invariant-loop-step : goal.invariant-loop-step
+invariant-loop-step l = record {
+  leads : Leads l.acts.done.items (acts l.acts.first l.acts.run.items (steps_left l.step-iterator)) (job_acts (job_of l.job));
+  words : l.acts.first + length l.acts.run.items + length (steps_left l.step-iterator) < 2 ^ 63;
+  can : (goal.iterator-loop-step).can_next l.step-iterator;
+  finite : (goal.iterator-loop-step).is_finite l.step-iterator;
 }

@@ -5,7 +5,7 @@ use Rattle.std.proofs.lemmas.List.{append-nil}
 use Rattle.std.proofs.Output.{has_written_of_eq}
 use Rattle.strips.specs.declared.kind.CellKind.{CellKind}
 use Rattle.jobs.specs.Texts.{eight_digits, cell_text}
-use Rattle.jobs.proofs.text.show_word.Goals as goal
+use Rattle.jobs.proofs.text.ToldCellDisplay.fmt.Goals as goal
 
 nothing_off : (n : ℕ) → 8 - n - 0 - 0 ≡ 8 - n
 nothing_off n = omega arith
@@ -14,8 +14,8 @@ zeros_before : (w : ℕ) → padded_integral (format_spec 32 0 4 8 1844674407370
 unfolding padded_integral char_count
 zeros_before w = rw (nothing_off (length (digits 16 true w)), append-nil (digits 16 true w))
 
-pub returns-in-Return : goal.returns-in-Return
-returns-in-Return g c plain ok =
-    let w = c.args.word in
+pub returns-in-Return-clause-writes : goal.returns-in-Return-clause-writes
+returns-in-Return-clause-writes g c plain ok =
+    let w = c.args.self.now.word in
     let capitals : digits_output c.in_radix.result ≡ Some (digits 16 true w) = c.in_radix.ensures in
     has_written_of_eq _ _ _ _ _ (ap (λ (k : CellKind). cell_text k w) (sym c.in-Return.is)) ((rw (c.laid_out.ensures, capitals, zeros_before w) at c.write-in-Return.ensures.writes) plain ok)
