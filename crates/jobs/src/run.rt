@@ -32,7 +32,7 @@ pub fn run(heap: Global, bytes: &[u8]) -> Result<Vec<Line>, AllocError>
 {
     match read(bytes) {
         Ok(job) => list(heap, &job),
-        Err(fault) => refusal(heap, JobFault::from(fault)),
+        Err(fault) => Ok(vec![in heap; Line::Refused(JobFault::from(fault))]?),
     }
 }
 
@@ -42,15 +42,6 @@ pub fn run_to_text(heap: Global, bytes: &[u8]) -> Result<String, AllocError>
 {
     let lines = run(heap, bytes)?;
     text(heap, lines.as_slice())
-}
-
-// The one line of a strip that is refused.
-fn refusal(heap: Global, fault: JobFault) -> Result<Vec<Line>, AllocError>
-    ensures { IfOk result (λ v. v.items ≡ Line.Refused fault ∷ []) }
-{
-    let mut lines = Vec::new(heap);
-    lines.push(Line::Refused(fault))?;
-    Ok(lines)
 }
 
 // The listing of a job.

@@ -106,12 +106,11 @@ impl fmt::Display for ToldCell {
     fn fmt<W: fmt::Write>(&self, f: &mut fmt::Formatter<W>) -> fmt::Result {
         let word = self.word;
         match self.kind {
-            CellKind::Gray => write!(f, "{word}"),
+            CellKind::Gray | CellKind::Flags => write!(f, "{word}"),
             CellKind::Height => {
                 let height = word.cast_signed();
                 write!(f, "{height}")
             }
-            CellKind::Flags => write!(f, "{word}"),
             CellKind::Return => write!(f, "{word:08X}"),
         }
     }

@@ -30,8 +30,7 @@ impl Ground {
             Ground::CutShort => 2,
             Ground::NoWord => 3,
             Ground::OutOfOrder => 4,
-            Ground::NoKind => 5,
-            Ground::WrongCount => 5,
+            Ground::NoKind | Ground::WrongCount => 5,
             Ground::NoCell => 6,
         }
     }
