@@ -27,6 +27,7 @@ impl RunFault {
     }
 }
 
+// `?` converts but once, so that each fault takes in want of memory by itself.
 impl From<AllocError> for RunFault {
     ghost from_gives = { λ _ r. r ≡ Memory };
 

@@ -8,21 +8,25 @@ mod cases;
 mod limits;
 
 use jobs::run::run;
+use std::io;
 use std::io::{BufRead, BufReader};
 
 fn main(rt: HostRuntime) -> anyhow::Result<()> {
     let alloc = rt.alloc();
-    // The strips are counted by hand, since a line that is blank or a remark has no number.
-    let mut strips: u64 = 0;
-    for line in BufReader::new(alloc, rt.reader())?.lines(alloc) {
+    let lines = BufReader::new(alloc, rt.reader())?.lines(alloc);
+    for (before, line) in lines.filter(has_case).enumerate() {
         let text = line?;
-        if cases::is_case(text.as_str()) {
-            strips = strips.saturating_add(1);
-            println!(rt; "strip {strips}")?;
-            list(&rt, text.as_str())?;
-        }
+        let number = before.saturating_add(1);
+        println!(rt; "strip {number}")?;
+        list(&rt, text.as_str())?;
     }
     limits::tell(&rt)
+}
+
+// Whether the line has a strip. One that cannot be read is kept, and ends the listing in its place.
+fn has_case(line: &io::Result<String>) -> bool {
+    line.as_ref()
+        .map_or(true, |text| cases::is_case(text.as_str()))
 }
 
 // Lists the job of a strip that is written as text.
