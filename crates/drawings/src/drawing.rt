@@ -1,5 +1,5 @@
 // A drawing: the points that it draws, or what is wrong with it.
-ghost use Rattle.std.specs.Prelude.{◌≡◌, ℕ, ◌+◌, ◌≤◌, Bool, true, cond, List, ◌++◌, map, length, is_ok, IfOk, string_bytes};
+ghost use Rattle.std.specs.Prelude.{◌≡◌, true, ◌++◌, map, is_ok, IfOk, string_bytes};
 ghost use Rattle.drawings.specs.declared.drawing.DrawingFault.TheVariants.{Memory};
 ghost use Rattle.drawings.specs.Signs.{blank, is_sign, is_point, is_origin, line_marks, marks};
 ghost use Rattle.drawings.specs.Readings.{sign_front, origin_of, point_marks, point_of, offset, origin_read, place_at, Reads};
@@ -59,6 +59,7 @@ impl fmt::Display for DrawingFault {
     }
 }
 
+// `?` converts but once, so that each fault takes in want of memory by itself.
 impl From<AllocError> for DrawingFault {
     ghost from_gives = { λ _ r. r ≡ Memory };
 
@@ -164,10 +165,7 @@ fn offset(from: usize, to: usize) -> i32
     if from <= to {
         i32::try_from(to - from).unwrap_or(i32::MAX)
     } else {
-        match i32::try_from(from - to) {
-            Ok(behind) => -behind,
-            Err(_) => i32::MIN,
-        }
+        i32::try_from(from - to).map_or(i32::MIN, |behind| -behind)
     }
 }
 

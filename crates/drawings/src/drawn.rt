@@ -1,6 +1,6 @@
 // The mask that a drawing draws, or what is wrong with it.
-ghost use Rattle.std.specs.Prelude.{◌≡◌};
-ghost use Rattle.drawings.specs.Drawn.{blamed, Masks};
+ghost use Rattle.std.specs.Prelude.{◌≡◌, Some};
+ghost use Rattle.drawings.specs.Drawn.{blamed, why_text, Masks};
 ghost use Rattle.drawings.specs.declared.drawn.DrawnFault.TheVariants.{Unread};
 
 use crate::drawing::{Drawing, DrawingFault, Place};
@@ -42,24 +42,31 @@ fn blame(drawing: &Drawing, fault: MaskFault) -> DrawnFault
     }
 }
 
+// Why no mask can be made of the points of a drawing.
+#[derive(Clone, Copy)]
+pub struct Why(pub MaskFault);
+
+impl fmt::Display for Why {
+    ghost output = { λ w. Some (why_text w.0) };
+
+    fn fmt<W: fmt::Write>(&self, f: &mut fmt::Formatter<W>) -> fmt::Result {
+        f.write_str(match self.0 {
+            MaskFault::NoPoints => "the drawing has no point",
+            MaskFault::Beyond(_) => "the point lies more than 15 from the origin",
+        })
+    }
+}
+
 impl fmt::Display for DrawnFault {
     fn fmt<W: fmt::Write>(&self, f: &mut fmt::Formatter<W>) -> fmt::Result {
         match self {
             DrawnFault::Unread(fault) => write!(f, "{fault}"),
             DrawnFault::Refused(fault, None) => {
-                write!(f, "refused {}: {}", fault.number(), reason(*fault))
+                write!(f, "refused {}: {}", fault.number(), Why(*fault))
             }
             DrawnFault::Refused(fault, Some(place)) => {
-                write!(f, "refused {}: {place}: {}", fault.number(), reason(*fault))
+                write!(f, "refused {}: {place}: {}", fault.number(), Why(*fault))
             }
         }
-    }
-}
-
-// Why no mask can be made.
-fn reason(fault: MaskFault) -> &'static str {
-    match fault {
-        MaskFault::NoPoints => "the drawing has no point",
-        MaskFault::Beyond(_) => "the point lies more than 15 from the origin",
     }
 }
