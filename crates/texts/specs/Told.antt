@@ -2,16 +2,17 @@
 --     refusal_text r     a refusal
 --     answer_text a      an answer
 --     row_text f cs      a row of the cells cs, whose words f gives
---     size_text w h      a size that the filters refuse
+--     size_text s        a size that the filters refuse
 use Rattle.std.specs.Prelude.{ℕ, List, [], ◌++◌, codes}
 use Rattle.std.specs.Fmt.{decimal, signed_decimal}
 use Rattle.std.specs.Int.{w32, cast_signed}
 use Rattle.std.specs.List.{flat_map}
+use Rattle.sheets.specs.declared.holder.Size.{Size}
 use Rattle.morphology.specs.Refusals.{number}
 use Rattle.morphology.specs.declared.call.Answer.{Answer}
 use Rattle.morphology.specs.declared.call.Answer.TheVariants.{Laid, Picks, Refused}
 use Rattle.morphology.specs.declared.refusal.Refusal.{Refusal}
-use Rattle.morphology.specs.declared.refusal.Refusal.TheVariants.{ShortTable}
+use Rattle.morphology.specs.declared.refusal.Refusal.TheVariants.{ShortTable, WrongSize}
 
 -- what a short table needs and has
 abbrev pub table_text : Refusal → List ℕ
@@ -33,5 +34,5 @@ cells_text f cs = flat_map (λ c. codes " " ++ signed_decimal (cast_signed w32 (
 abbrev pub row_text : {K : Type 0} → (K → ℕ) → List K → List ℕ
 row_text f cs = codes " " ++ cells_text f cs
 
-abbrev pub size_text : ℕ → ℕ → List ℕ
-size_text w h = codes "refused 9: the sheet is " ++ decimal w ++ codes " by " ++ decimal h ++ codes "; each goes from 1 to 2048"
+abbrev pub size_text : Size → List ℕ
+size_text s = refusal_text (WrongSize s) ++ codes ": the sheet is " ++ decimal s.width ++ codes " by " ++ decimal s.height ++ codes "; each goes from 1 to 2048"

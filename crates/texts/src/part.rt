@@ -48,10 +48,8 @@ impl Part {
     ) -> Result<(&'b [Line<'a>], Line<'a>, &'b [Line<'a>]), Missing>
         ensures { MatchResult result (λ p. Cuts self lines.now p.0.now p.1 p.2.now) (λ e. (e ≡ record { 0 = self }) × Lacks self lines.now) }
     {
-        match self.place(lines) {
-            Some(at) => Ok((&lines[..at], lines[at], &lines[at + 1..])),
-            None => Err(Missing(self)),
-        }
+        let at = self.place(lines).ok_or(Missing(self))?;
+        Ok((&lines[..at], lines[at], &lines[at + 1..]))
     }
 
     // The place of the first line that begins the part.

@@ -3,7 +3,8 @@ ghost use Rattle.std.specs.Prelude.{◌≡◌, ◌&&◌, if◌then◌else◌, So
 ghost use Rattle.morphology.specs.Refusals.{fits};
 ghost use Rattle.texts.specs.Told.{size_text};
 
-use morphology::refusal::can_filter;
+use crate::told::ToldRefusal;
+use morphology::refusal::{Refusal, can_filter};
 use sheets::holder::Size;
 use std::fmt;
 
@@ -12,13 +13,14 @@ use std::fmt;
 pub struct WrongSize(pub Size);
 
 impl fmt::Display for WrongSize {
-    ghost output = { λ s. Some (size_text s.0.width s.0.height) };
+    ghost output = { λ s. Some (size_text s.0) };
 
     fn fmt<W: fmt::Write>(&self, f: &mut fmt::Formatter<W>) -> fmt::Result {
+        let Size { width, height } = self.0;
+        let refused = ToldRefusal(Refusal::WrongSize(self.0));
         write!(
             f,
-            "refused 9: the sheet is {} by {}; each goes from 1 to 2048",
-            self.0.width, self.0.height
+            "{refused}: the sheet is {width} by {height}; each goes from 1 to 2048"
         )
     }
 }

@@ -1,7 +1,6 @@
 // What filters answer and leave, as listings tell it.
 ghost use Rattle.std.specs.Prelude.{Some};
-ghost use Rattle.std.specs.Fmt.{WritesOnOk};
-ghost use Rattle.texts.specs.Told.{table_text, refusal_text, answer_text, row_text};
+ghost use Rattle.texts.specs.Told.{refusal_text, answer_text, row_text};
 
 use cells::words::WordForm;
 use morphology::call::Answer;
@@ -32,20 +31,13 @@ impl fmt::Display for ToldRefusal {
 
     fn fmt<W: fmt::Write>(&self, f: &mut fmt::Formatter<W>) -> fmt::Result {
         let number = self.0.number();
-        write!(f, "refused {number}")?;
-        show_table(self.0, f)
-    }
-}
-
-// What a short table needs and has.
-fn show_table<W: fmt::Write>(refusal: Refusal, f: &mut fmt::Formatter<W>) -> fmt::Result
-    ensures { WritesOnOk W.write_str_gives f.old result (table_text refusal) f.new }
-{
-    match refusal {
-        Refusal::ShortTable { needed, lent } => {
-            write!(f, ", the table needs {needed} cells and has {lent}")
+        match self.0 {
+            Refusal::ShortTable { needed, lent } => write!(
+                f,
+                "refused {number}, the table needs {needed} cells and has {lent}"
+            ),
+            _ => write!(f, "refused {number}"),
         }
-        _ => Ok(()),
     }
 }
 
@@ -56,10 +48,7 @@ impl fmt::Display for ToldAnswer {
         match self.0 {
             Answer::Laid => write!(f, "laid"),
             Answer::Picks(picks) => write!(f, "{picks} picks"),
-            Answer::Refused(refusal) => {
-                let told = ToldRefusal(refusal);
-                write!(f, "{told}")
-            }
+            Answer::Refused(refusal) => { write!(f, "{}", ToldRefusal(refusal)) }
         }
     }
 }
@@ -80,8 +69,7 @@ impl<K: WordForm> fmt::Display for ToldRow<'_, K> {
 impl<K: WordForm> fmt::Display for ToldRows<'_, K> {
     fn fmt<W: fmt::Write>(&self, f: &mut fmt::Formatter<W>) -> fmt::Result {
         for row in self.cells.chunks(self.width.max(1)) {
-            let told = ToldRow(row);
-            writeln!(f, "{told}")?;
+            writeln!(f, "{}", ToldRow(row))?;
         }
         Ok(())
     }
