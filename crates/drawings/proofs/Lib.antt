@@ -1,1 +1,2 @@
 pub mod Origins
+pub mod Blanks

@@ -173,13 +173,7 @@ fn offset(from: usize, to: usize) -> i32
 fn is_blank(text: &[u8]) -> bool
     ensures { result ≡ blank text.now }
 {
-    // By `all`, that the answer is the definition's would stay open.
-    for b in text {
-        if *b != b' ' {
-            return false;
-        }
-    }
-    true
+    text.iter().all(|b| *b == b' ')
 }
 
 // Puts the marks of one line behind those that are there.
