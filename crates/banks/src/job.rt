@@ -1,11 +1,11 @@
 // A job as text: a grid of heights, the mask of a mid, the fore and the back mask of a find, and the length of a list.
-use crate::fault::JobFault;
 use cells::height::Height;
 use drawings::drawing::Drawing;
 use drawings::drawn::mask_of;
 use masks::mask::Mask;
 use sheets::holder::Size;
 use std::alloc::Global;
+use texts::fault::{JobFault, Words};
 use texts::line::{Line, drawn_lines, numbered};
 use texts::part::Part;
 use texts::sheet::read_sheet;
@@ -23,6 +23,18 @@ const LIST: Part = Part::Setting("list");
 
 // The longest list of places.
 const MOST_PLACES: usize = 65_536;
+
+// What a line of the list is.
+const LIST_RULE: &str = "a list has a whole number of places, from 0 to 65536";
+
+// The words for what is wrong with a job.
+pub const WORDS: Words = Words {
+    parts: "sheet, mask, fore, back and list",
+    cells: "whole numbers of millimetres, of 32 bits",
+    no_text: "the job is no text",
+    unread: "the job is no text",
+    unwritten: "the listing cannot be written",
+};
 
 #[derive(Drop)]
 pub struct Job {
@@ -64,8 +76,10 @@ fn read_mask(alloc: Global, lines: &[Line]) -> Result<Mask, JobFault> {
 
 // How many places the list has.
 fn read_list(line: Line) -> Result<usize, JobFault> {
-    match line.value::<usize>() {
-        Some(places) if places <= MOST_PLACES => Ok(places),
-        _ => Err(JobFault::NoList(line.number)),
-    }
+    line.value::<usize>()
+        .filter(|places| *places <= MOST_PLACES)
+        .ok_or(JobFault::NotAs {
+            line: line.number,
+            rule: LIST_RULE,
+        })
 }

@@ -1,69 +1,82 @@
 // The plan as text.
 use crate::plan;
-use crate::plan::Costs;
 use drawings::drawing::Drawing;
 use drawings::picture::picture_row;
 use masks::chord::ChordList;
 use masks::lengths::LengthList;
 use masks::mask::Mask;
-use masks::point::Point;
 use sheets::holder::Size;
 use std::io;
+use texts::fault::JobFault;
 
-// Prints each step of the plan.
-pub fn print(rt: &HostRuntime, drawing: &Drawing, mask: &Mask, size: Size) -> io::Result<()> {
-    println!(rt; "sheet {} by {}", size.width, size.height)?;
-    print_points(rt, drawing.points(), mask.count())?;
-    print_picture(rt, mask, drawing.points())?;
-    print_chords(rt, mask)?;
-    print_lengths(rt, mask)?;
-    print_costs(rt, plan::priced(mask, size))
+// What is planned, and where to the plan is printed.
+#[derive(Clone, Copy)]
+pub struct Listing<'a> {
+    pub rt: &'a HostRuntime,
+    pub drawing: &'a Drawing,
+    pub mask: &'a Mask,
+    pub size: Size,
 }
 
-// The points as they were drawn.
-fn print_points(rt: &HostRuntime, points: &[Point], count: usize) -> io::Result<()> {
-    println!(rt; "points {count}")?;
-    for p in points {
-        println!(rt; "  ({}, {})", p.u, p.v)?;
+impl Listing<'_> {
+    // Prints each step of the plan.
+    pub fn print(&self) -> Result<(), JobFault> {
+        println!(self.rt; "sheet {} by {}", self.size.width, self.size.height)?;
+        self.print_points()?;
+        self.print_picture()?;
+        self.print_chords()?;
+        self.print_lengths()?;
+        Ok(self.print_costs()?)
     }
-    Ok(())
-}
 
-// The smallest rectangle that has every point and the origin.
-fn print_picture(rt: &HostRuntime, mask: &Mask, points: &[Point]) -> io::Result<()> {
-    let (north, south) = ChordList::of(mask).extent();
-    let west = points.iter().fold(0, |least, p| p.u.min(least));
-    let east = points.iter().fold(0, |most, p| p.u.max(most));
-    let columns: Vec<i32> = (west..east.saturating_add(1)).collect(rt.alloc())?;
-    println!(rt; "mask")?;
-    for v in north..south.saturating_add(1) {
-        let row = picture_row(rt.alloc(), mask, v, columns.as_slice())?;
-        println!(rt; "  {row}")?;
+    // The points as they were drawn.
+    fn print_points(&self) -> io::Result<()> {
+        println!(self.rt; "points {}", self.mask.count())?;
+        for p in self.drawing.points() {
+            println!(self.rt; "  ({}, {})", p.u, p.v)?;
+        }
+        Ok(())
     }
-    Ok(())
-}
 
-fn print_chords(rt: &HostRuntime, mask: &Mask) -> io::Result<()> {
-    let chords = ChordList::of(mask);
-    let count = chords.as_slice().len();
-    println!(rt; "chords {count}")?;
-    for c in chords.as_slice() {
-        println!(rt; "  row {}, from {}, {} long", c.v, c.start, c.length)?;
+    // The smallest rectangle that has every point and the origin.
+    fn print_picture(&self) -> Result<(), JobFault> {
+        let alloc = self.rt.alloc();
+        let points = self.drawing.points();
+        let (north, south) = ChordList::of(self.mask).extent();
+        let west = points.iter().fold(0, |least, p| p.u.min(least));
+        let east = points.iter().fold(0, |most, p| p.u.max(most));
+        let columns: Vec<i32> = (west..east.saturating_add(1)).collect(alloc)?;
+        println!(self.rt; "mask")?;
+        for v in north..south.saturating_add(1) {
+            let row = picture_row(alloc, self.mask, v, columns.as_slice())?;
+            println!(self.rt; "  {row}")?;
+        }
+        Ok(())
     }
-    Ok(())
-}
 
-fn print_lengths(rt: &HostRuntime, mask: &Mask) -> io::Result<()> {
-    print!(rt; "lengths")?;
-    for length in LengthList::of(mask).as_slice() {
-        print!(rt; " {length}")?;
+    fn print_chords(&self) -> io::Result<()> {
+        let chords = ChordList::of(self.mask);
+        let count = chords.as_slice().len();
+        println!(self.rt; "chords {count}")?;
+        for c in chords.as_slice() {
+            println!(self.rt; "  row {}, from {}, {} long", c.v, c.start, c.length)?;
+        }
+        Ok(())
     }
-    println!(rt)
-}
 
-fn print_costs(rt: &HostRuntime, costs: Costs) -> io::Result<()> {
-    println!(rt; "rows {}", costs.rows)?;
-    println!(rt; "table {} cells", costs.table)?;
-    println!(rt; "erode or dilate {} picks", costs.filter)?;
-    println!(rt; "open or close {} picks", costs.opening)
+    fn print_lengths(&self) -> io::Result<()> {
+        print!(self.rt; "lengths")?;
+        for length in LengthList::of(self.mask).as_slice() {
+            print!(self.rt; " {length}")?;
+        }
+        println!(self.rt)
+    }
+
+    fn print_costs(&self) -> io::Result<()> {
+        let costs = plan::priced(self.mask, self.size);
+        println!(self.rt; "rows {}", costs.rows)?;
+        println!(self.rt; "table {} cells", costs.table)?;
+        println!(self.rt; "erode or dilate {} picks", costs.filter)?;
+        println!(self.rt; "open or close {} picks", costs.opening)
+    }
 }

@@ -1,9 +1,6 @@
 // Plans a mask: reads a drawing, and says what filters under it cost on a sheet of a given size.
 #![tactic(auto)]
 
-// What can keep a plan from being made, and the line that says so.
-mod fault;
-
 // The costs, as values.
 mod plan;
 
@@ -12,52 +9,68 @@ mod listing;
 
 use drawings::drawing::Drawing;
 use drawings::drawn::mask_of;
-use fault::PlanFault;
+use listing::Listing;
 use sheets::holder::Size;
-use std::io::ErrorKind;
+use std::env;
 use std::process::ExitCode;
-use std::{env, io};
-use texts::input::input_lines;
+use texts::ending::ended;
+use texts::fault::{JobFault, ToldJobFault, Words};
+use texts::input::{InputFault, input_lines};
 use texts::size::sized;
 
+// What the program's arguments are.
+const USAGE: &str = "usage: maskplan WIDTH HEIGHT, with a drawing on standard input";
+
+const WIDTH_RULE: &str = "the width is not a whole number from 1 to 2048";
+
+const HEIGHT_RULE: &str = "the height is not a whole number from 1 to 2048";
+
+// The words for what is wrong. A drawing alone has no parts and no cells.
+const WORDS: Words = Words {
+    parts: "",
+    cells: "",
+    no_text: "the drawing is no text",
+    unread: "the drawing is no text",
+    unwritten: "the plan cannot be written",
+};
+
 fn main(rt: HostRuntime) -> ExitCode {
-    match run(&rt) {
-        Ok(()) => ExitCode::SUCCESS,
-        Err(fault) => {
-            let _ = eprintln!(rt; "maskplan: {fault}");
-            ExitCode::FAILURE
-        }
-    }
+    let outcome = run(&rt).map_err(|fault| ToldJobFault {
+        fault,
+        words: WORDS,
+    });
+    ended(&rt, "maskplan", outcome)
 }
 
 // Reads the size from the arguments and the drawing from standard input, and prints each step.
-fn run(rt: &HostRuntime) -> Result<(), PlanFault> {
+fn run(rt: &HostRuntime) -> Result<(), JobFault> {
     let size = size(rt)?;
     let lines = input_lines(rt)?;
     let drawing = Drawing::read(rt.alloc(), lines.as_slice())?;
     let mask = mask_of(&drawing)?;
-    listing::print(rt, &drawing, &mask, size).map_err(unwritten)
+    let listing = Listing {
+        rt,
+        drawing: &drawing,
+        mask: &mask,
+        size,
+    };
+    listing.print()
 }
 
-// The two arguments, the sheet's width and height.
-fn size(rt: &HostRuntime) -> Result<Size, PlanFault> {
-    let words: Vec<String> = env::args(rt)?.collect(rt.alloc())?;
+// The two arguments, the sheet's width and height. Arguments that cannot be read are told as input is.
+fn size(rt: &HostRuntime) -> Result<Size, JobFault> {
+    let words = env::args(rt).map_err(|_| InputFault::Unread)?;
+    let words: Vec<String> = words.collect(rt.alloc())?;
     let [_, width, height] = words.as_slice() else {
-        return Err(PlanFault::Usage);
+        return Err(JobFault::Arguments(USAGE));
     };
-    let Ok(width) = width.as_str().parse::<usize>() else {
-        return Err(PlanFault::WidthIsNoNumber);
-    };
-    let Ok(height) = height.as_str().parse::<usize>() else {
-        return Err(PlanFault::HeightIsNoNumber);
-    };
-    Ok(sized(Size { width, height })?)
+    Ok(sized(Size {
+        width: number_of(width.as_str(), WIDTH_RULE)?,
+        height: number_of(height.as_str(), HEIGHT_RULE)?,
+    })?)
 }
 
-// Why the plan is not printed to its end.
-fn unwritten(error: io::Error) -> PlanFault {
-    match error.kind() {
-        ErrorKind::OutOfMemory => PlanFault::Memory,
-        _ => PlanFault::Unwritten,
-    }
+// The number that an argument is, where it is one.
+fn number_of(word: &str, rule: &'static str) -> Result<usize, JobFault> {
+    word.parse::<usize>().map_err(|_| JobFault::Arguments(rule))
 }

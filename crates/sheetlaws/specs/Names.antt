@@ -16,13 +16,13 @@ use Rattle.sheetlaws.specs.declared.job.Pass.{Pass}
 abbrev pub call : Sort → List ℕ
 call q = filter_name (filter_of q)
 
-abbrev pub cells_text : Option ℕ → List ℕ
-cells_text None = []
-cells_text (Some n) = codes " with " ++ decimal n ++ codes " cells"
+abbrev pub with_cells : Option ℕ → List ℕ
+with_cells None = []
+with_cells (Some n) = codes " with " ++ decimal n ++ codes " cells"
 
 -- with the cells of its table, where the job tells them
 abbrev pub pass_text : Pass → List ℕ
-pass_text p = call p.sort ++ cells_text p.cells
+pass_text p = call p.sort ++ with_cells p.cells
 
 abbrev pub done : Sort → List ℕ
 done Opening = codes "opened"

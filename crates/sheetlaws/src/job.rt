@@ -1,7 +1,6 @@
 // A job as text: a gray sheet, a mask, a threshold, and a list of openings and closings.
 ghost use Rattle.std.specs.Prelude.{◌≡◌, Some};
 
-use crate::fault::JobFault;
 use cells::gray::Gray;
 use cells::threshold::Threshold;
 use drawings::drawing::Drawing;
@@ -13,6 +12,7 @@ use morphology::standing::Sort;
 use sheets::holder::Size;
 use std::alloc::Global;
 use std::fmt;
+use texts::fault::{JobFault, Words};
 use texts::line::{Line, drawn_lines, numbered};
 use texts::part::Part;
 use texts::sheet::read_sheet;
@@ -25,6 +25,20 @@ const MASK: Part = Part::Heading("mask");
 const THRESHOLD: Part = Part::Setting("threshold");
 
 const CALLS: Part = Part::Heading("calls");
+
+// What a line of the threshold and one of a call are.
+const THRESHOLD_RULE: &str = "a threshold is a whole number from 1 to 255";
+
+const CALL_RULE: &str = "a call is open or close, and perhaps the cells of its table";
+
+// The words for what is wrong with a job.
+pub const WORDS: Words = Words {
+    parts: "sheet, mask, threshold and calls",
+    cells: "whole numbers from 0 to 255",
+    no_text: "the job is no text",
+    unread: "the job cannot be read",
+    unwritten: "the listing cannot be written",
+};
 
 // A job that was read. The sheet's cells lie row by row.
 #[derive(Drop)]
@@ -102,7 +116,10 @@ impl fmt::Display for Pass {
 fn read_threshold(line: Line) -> Result<Threshold, JobFault> {
     line.value::<u8>()
         .and_then(Threshold::new)
-        .ok_or(JobFault::NoThreshold(line.number))
+        .ok_or(JobFault::NotAs {
+            line: line.number,
+            rule: THRESHOLD_RULE,
+        })
 }
 
 // The calls, each in a line of its own.
@@ -115,7 +132,10 @@ fn read_calls(heap: Global, lines: &[Line]) -> Result<Vec<Pass>, JobFault> {
 
 // The call of a line, or none where the line is blank.
 fn read_call(line: Line) -> Result<Option<Pass>, JobFault> {
-    let fault = JobFault::NoCall(line.number);
+    let fault = JobFault::NotAs {
+        line: line.number,
+        rule: CALL_RULE,
+    };
     let mut words = line.text.split_whitespace();
     match (words.next(), words.next(), words.next()) {
         (None, _, _) => Ok(None),

@@ -3,7 +3,6 @@ use crate::album::{Album, Picture};
 use crate::job::Job;
 use crate::names::{Reason, SheetName};
 use crate::report::{Family, Report, Shown, Step};
-use cells::words::WordForm;
 use morphology::call::{Answer, Filter};
 use std::io;
 use texts::told::{ToldAnswer, ToldRows};
@@ -75,9 +74,13 @@ impl Listing<'_> {
         let standing = self.report.standing;
         let accepted = self.report.accepted();
         let calls = self.report.steps.len();
+        let width = self.job.size.width;
         println!(self.rt)?;
         println!(self.rt; "the sheet that stands: {}", SheetName(standing))?;
-        self.print_rows(self.report.outcome.gray.cells.as_slice())?;
+        self.rt.print(ToldRows {
+            width,
+            cells: self.report.outcome.gray.cells.as_slice(),
+        })?;
         println!(self.rt;
             "accepted {accepted} of {calls} calls, {}",
             Reason(standing)
@@ -106,13 +109,17 @@ impl Listing<'_> {
     // A picture of an album under its name: drawn, or told by the first picture that has the same cells.
     fn print_picture(&self, album: &Album, picture: &Picture) -> io::Result<()> {
         let name = SheetName(picture.name);
+        let width = self.job.size.width;
         match album.first_like(picture.cells.as_slice()) {
             Some(first) if first != picture.name => {
                 println!(self.rt; "{name}: the cells of {}", SheetName(first))
             }
             _ => {
                 println!(self.rt; "{name}")?;
-                self.print_rows(picture.cells.as_slice())
+                self.rt.print(ToldRows {
+                    width,
+                    cells: picture.cells.as_slice(),
+                })
             }
         }
     }
@@ -121,13 +128,20 @@ impl Listing<'_> {
     fn print_threshold(&self) -> io::Result<()> {
         let outcome = &self.report.outcome;
         let level = self.job.threshold.level();
+        let width = self.job.size.width;
         println!(self.rt)?;
         println!(self.rt; "threshold {level} of the sheet that stands")?;
-        self.print_rows(self.report.flags.as_slice())?;
+        self.rt.print(ToldRows {
+            width,
+            cells: self.report.flags.as_slice(),
+        })?;
         println!(self.rt;
             "the sheet that stands after the same calls on threshold {level} of the loaded sheet"
         )?;
-        self.print_rows(outcome.flag.cells.as_slice())?;
+        self.rt.print(ToldRows {
+            width,
+            cells: outcome.flag.cells.as_slice(),
+        })?;
         let alike = self.report.flags.as_slice() == outcome.flag.cells.as_slice()
             && outcome.gray.answers.as_slice() == outcome.flag.answers.as_slice();
         if alike {
@@ -135,11 +149,5 @@ impl Listing<'_> {
         } else {
             println!(self.rt; "not the same")
         }
-    }
-
-    // The rows of a sheet as wide as the job's.
-    fn print_rows<K: WordForm>(&self, cells: &[K]) -> io::Result<()> {
-        let width = self.job.size.width;
-        print!(self.rt; "{}", ToldRows { width, cells })
     }
 }

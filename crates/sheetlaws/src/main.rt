@@ -1,9 +1,6 @@
 // Opens and closes a gray sheet as a job says, and tells which sheets that makes, which of them stands, and why.
 #![tactic(auto)]
 
-// What can be wrong with a job, and the line that says so.
-mod fault;
-
 // A job as text.
 mod job;
 
@@ -22,21 +19,20 @@ mod names;
 // The report as text.
 mod listing;
 
-use fault::JobFault;
-use job::Job;
+use job::{Job, WORDS};
 use listing::Listing;
 use report::Report;
 use std::process::ExitCode;
+use texts::ending::ended;
+use texts::fault::{JobFault, ToldJobFault};
 use texts::input::input_lines;
 
 fn main(rt: HostRuntime) -> ExitCode {
-    match run(&rt) {
-        Ok(()) => ExitCode::SUCCESS,
-        Err(fault) => {
-            let _ = eprintln!(rt; "sheetlaws: {fault}");
-            ExitCode::FAILURE
-        }
-    }
+    let outcome = run(&rt).map_err(|fault| ToldJobFault {
+        fault,
+        words: WORDS,
+    });
+    ended(&rt, "sheetlaws", outcome)
 }
 
 // Reads a job from standard input and runs it; then lists what it did.

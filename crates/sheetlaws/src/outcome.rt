@@ -16,7 +16,7 @@ use worksheets::worksheet::Worksheet;
 
 // What a worksheet is made over and works with: its cells, a table, and a place for each answer.
 #[derive(Drop)]
-pub struct Side<C> {
+pub struct Backing<C> {
     pub cells: Vec<C>,
     pub answers: Vec<Answer>,
     table: Vec<C>,
@@ -25,8 +25,8 @@ pub struct Side<C> {
 // What the calls left and answered, on the sheet and on its threshold. The first answer is that to the lay.
 #[derive(Drop)]
 pub struct Outcome {
-    pub gray: Side<Gray>,
-    pub flag: Side<Flags>,
+    pub gray: Backing<Gray>,
+    pub flag: Backing<Flags>,
 }
 
 impl Outcome {
@@ -36,12 +36,12 @@ impl Outcome {
     {
         let room = job.table_cells();
         let calls = calls(heap, job, passes)?;
-        let mut gray = Side {
+        let mut gray = Backing {
             cells: job.cells.clone()?,
             answers: vec![in heap; Answer::Laid; calls.len()]?,
             table: vec![in heap; Gray(0); room]?,
         };
-        let mut flag = Side {
+        let mut flag = Backing {
             cells: thresholded(heap, job.cells.as_slice(), job.threshold)?,
             answers: vec![in heap; Answer::Laid; calls.len()]?,
             table: vec![in heap; Flags(0); room]?,
@@ -55,7 +55,7 @@ impl Outcome {
         ensures { result ≡ self.gray.cells }
     {
         let Outcome { gray, flag: _ } = self;
-        let Side {
+        let Backing {
             cells,
             answers: _,
             table: _,
@@ -65,7 +65,7 @@ impl Outcome {
 }
 
 // Makes the calls on two new worksheets, with rows of one width.
-fn make(width: usize, calls: &[Call], gray: &mut Side<Gray>, flag: &mut Side<Flags>)
+fn make(width: usize, calls: &[Call], gray: &mut Backing<Gray>, flag: &mut Backing<Flags>)
     requires places { length gray.old.answers.items ≡ length calls.now }
     requires flag_places { length flag.old.answers.items ≡ length calls.now }
     requires tables { length flag.old.table.items ≡ length gray.old.table.items }

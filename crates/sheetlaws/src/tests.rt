@@ -1,20 +1,19 @@
 // Jobs that are refused, each by its line, and a job whose four sheets are different.
 use crate::album::Album;
-use crate::job::Job;
+use crate::job::{Job, WORDS};
 use crate::report::Report;
 use cells::gray::Gray;
 use morphology::standing::{Sort, Standing};
 use std::alloc::{AllocError, Global};
 use std::process::Abort;
 use std::test::Fail;
+use texts::fault::ToldJobFault;
 
 // The lines of a text.
 fn lines_of(heap: Global, text: &str) -> Result<Vec<String>, AllocError> {
-    let mut lines = Vec::new(heap);
-    for line in text.lines() {
-        lines.push(String::from_str(heap, line)?)?;
-    }
-    Ok(lines)
+    text.lines()
+        .map(|line| String::from_str(heap, line))
+        .try_collect(heap)
 }
 
 // What is wrong with a job.
@@ -22,7 +21,13 @@ fn fault_of(heap: Global, text: &str) -> Result<String, AllocError> {
     let lines = lines_of(heap, text)?;
     match Job::read(heap, lines.as_slice()) {
         Ok(_) => String::from_str(heap, "nothing"),
-        Err(fault) => fault.to_string(heap),
+        Err(fault) => {
+            let told = ToldJobFault {
+                fault,
+                words: WORDS,
+            };
+            told.to_string(heap)
+        }
     }
 }
 
@@ -114,15 +119,14 @@ fn a_sheet_2049_wide_is_refused(rt: HostRuntime) -> Result<(), Fail> {
 
 // Holds a picture of an album to the cells that are wanted.
 fn shows(rt: &impl Abort, album: &Album, name: Standing, wanted: [u8; 20]) {
-    match album.named(name) {
-        Some(picture) => {
-            let cells = picture.cells.as_slice();
-            assert_eq!(rt; cells.len(), 20);
-            for (cell, level) in cells.iter().zip(&wanted) {
-                assert_eq!(rt; *cell, Gray(*level));
-            }
-        }
-        None => assert!(rt; false),
+    let Some(picture) = album.named(name) else {
+        assert!(rt; false);
+        return;
+    };
+    let cells = picture.cells.as_slice();
+    assert_eq!(rt; cells.len(), 20);
+    for (cell, level) in cells.iter().zip(&wanted) {
+        assert_eq!(rt; *cell, Gray(*level));
     }
 }
 

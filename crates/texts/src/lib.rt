@@ -18,3 +18,9 @@ pub mod size;
 
 // What filters answer and leave, as listings tell it.
 pub mod told;
+
+// What can keep a program from its work, and the line that says so.
+pub mod fault;
+
+// How a program ends.
+pub mod ending;
