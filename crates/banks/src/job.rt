@@ -1,12 +1,11 @@
 // A job as text: a grid of heights, the mask of a mid, the fore and the back mask of a find, and the length of a list.
 use cells::height::Height;
-use drawings::drawing::Drawing;
-use drawings::drawn::mask_of;
 use masks::mask::Mask;
 use sheets::holder::Size;
 use std::alloc::Global;
 use texts::fault::{JobFault, Words};
-use texts::line::{Line, drawn_lines, numbered};
+use texts::line::{Line, numbered};
+use texts::mask::read_mask;
 use texts::part::Part;
 use texts::sheet::read_sheet;
 
@@ -65,13 +64,6 @@ impl Job {
             places: read_list(list)?,
         })
     }
-}
-
-// The mask that is drawn in the lines.
-fn read_mask(alloc: Global, lines: &[Line]) -> Result<Mask, JobFault> {
-    let drawn = drawn_lines(alloc, lines)?;
-    let drawing = Drawing::read(alloc, drawn.as_slice())?;
-    Ok(mask_of(&drawing)?)
 }
 
 // How many places the list has.

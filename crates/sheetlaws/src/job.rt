@@ -3,8 +3,6 @@ ghost use Rattle.std.specs.Prelude.{◌≡◌, Some};
 
 use cells::gray::Gray;
 use cells::threshold::Threshold;
-use drawings::drawing::Drawing;
-use drawings::drawn::mask_of;
 use masks::cost;
 use masks::mask::Mask;
 use morphology::call::{Call, Filter};
@@ -13,7 +11,8 @@ use sheets::holder::Size;
 use std::alloc::Global;
 use std::fmt;
 use texts::fault::{JobFault, Words};
-use texts::line::{Line, drawn_lines, numbered};
+use texts::line::{Line, numbered};
+use texts::mask::read_mask;
 use texts::part::Part;
 use texts::sheet::read_sheet;
 
@@ -79,12 +78,10 @@ impl Job {
         let (mask, threshold, rest) = THRESHOLD.cut(rest)?;
         let (_, _, calls) = CALLS.cut(rest)?;
         let (size, levels) = read_sheet::<u8>(heap, sheet)?;
-        let drawn = drawn_lines(heap, mask)?;
-        let drawing = Drawing::read(heap, drawn.as_slice())?;
         Ok(Job {
             size,
             cells: levels.iter().map(|level| Gray(*level)).collect(heap)?,
-            mask: mask_of(&drawing)?,
+            mask: read_mask(heap, mask)?,
             threshold: read_threshold(threshold)?,
             passes: read_calls(heap, calls)?,
         })

@@ -13,6 +13,9 @@ pub mod part;
 // The sheet of a job.
 pub mod sheet;
 
+// The masks of a job.
+pub mod mask;
+
 // The sizes of sheets that the filters take.
 pub mod size;
 

@@ -1,0 +1,19 @@
+// The masks of a job.
+ghost use Rattle.std.specs.Prelude.{IfOk};
+ghost use Rattle.texts.specs.Masks.{Draws};
+
+use crate::fault::JobFault;
+use crate::line::{Line, drawn_lines};
+use drawings::drawing::Drawing;
+use drawings::drawn::mask_of;
+use masks::mask::Mask;
+use std::alloc::Global;
+
+// The mask that is drawn in the lines.
+pub fn read_mask(alloc: Global, lines: &[Line]) -> Result<Mask, JobFault>
+    ensures { IfOk result (Draws lines.now) }
+{
+    let drawn = drawn_lines(alloc, lines)?;
+    let drawing = Drawing::read(alloc, drawn.as_slice())?;
+    Ok(mask_of(&drawing)?)
+}
