@@ -9,7 +9,7 @@ use Rattle.plans.specs.Plan.{chord_of}
 use Rattle.filters.specs.Side.{Best}
 use Rattle.filters.specs.Line.{UnderAt, held, Holds, Beside}
 use Rattle.filters.specs.Row.{slot_of, run_of, picked}
-use Rattle.filters.specs.Sweep.{Along, Through, ErodedAt, SameFrom, Mixed, Ring, next_slot}
+use Rattle.filters.specs.Sweep.{Along, Through, ErodedAt, SameFrom, Mixed, InRing, next_slot}
 use Rattle.filters.proofs.Bests.{best_same, best_at}
 use Rattle.filters.proofs.Picks.{picked_best}
 use Rattle.filters.proofs.Rooms.{part_room, slot_room}
@@ -61,7 +61,7 @@ module _ {K C : Type 0} (k : Lattice C) (f : K → C) (z : C) (s : Sheet K) (p :
   -- a line more, in the slot that is next
   pub ring_more : (old new : List K) (slot line n : ℕ) → slot < p.rows → n < p.rows →
       Beside f old new (slot * length p.lengths * (w + 30)) (slot * length p.lengths * (w + 30) + length p.lengths * (w + 30)) →
-      Holds k f z s p w new (slot * length p.lengths * (w + 30)) line → Ring k f z s p w old slot line n → Ring k f z s p w new (next_slot p.rows slot) (line + 1) (n + 1)
+      Holds k f z s p w new (slot * length p.lengths * (w + 30)) line → InRing k f z s p w old slot line n → InRing k f z s p w new (next_slot p.rows slot) (line + 1) (n + 1)
   ring_more old new slot line n hs hn B H R l h m =
       elim (cases_lt l line) [
         | inl b ↦
@@ -83,7 +83,7 @@ module _ {K C : Type 0} (k : Lattice C) (f : K → C) (z : C) (s : Sheet K) (p :
   -- the slot of the oldest line is written over
   pub ring_less : (old new : List K) (slot line n : ℕ) → slot < p.rows → n < p.rows →
       Beside f old new (slot * length p.lengths * (w + 30)) (slot * length p.lengths * (w + 30) + length p.lengths * (w + 30)) →
-      Ring k f z s p w old slot line (n + 1) → Ring k f z s p w new slot line n
+      InRing k f z s p w old slot line (n + 1) → InRing k f z s p w new slot line n
   ring_less old new slot line n hs hn B R l h m =
       let rl = l + p.rows - line in
       let r1 : 1 ≤ rl = omega arith in
@@ -92,7 +92,7 @@ module _ {K C : Type 0} (k : Lattice C) (f : K → C) (z : C) (s : Sheet K) (p :
 
   -- the pick over the chords is the greatest lower bound of all that they show
   pub through_best : (table : List K) (slot line x y : ℕ) → x < w → line ≡ y + p.rows →
-      Ring k f z s p w table slot line p.rows →
+      InRing k f z s p w table slot line p.rows →
       Best k (Through k f z s p x y) (picked k (run_of f k.greatest table p (w + 30) slot x) (length p.chords.items - 1))
   through_best table slot line x y hx e R =
       best_same k (λ a. (q : ℕ) → q ≤ length p.chords.items - 1 → Along k f z s p x y q a) (Through k f z s p x y) _

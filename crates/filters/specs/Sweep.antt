@@ -5,7 +5,7 @@
 --     SameFrom y s t                the sheets s and t are the same from row y on
 --     Mixed k f p w s t y           the rows of t before y are results, the others are those of s
 --     next_slot rows slot           the slot after a slot of the ring
---     Ring k f z s p w t slot line n  the last n lines before `line` stand in the ring, and `line` is due at `slot`
+--     InRing k f z s p w t slot line n  the last n lines before `line` stand in the ring, and `line` is due at `slot`
 --     Stands k f c s t slot line n  the same, by a course
 --     Gathered k f z s p w t start y  from start on, the table has what the chords show in row y
 --     Laid k f c s t start y        the same, by a course
@@ -47,14 +47,14 @@ abbrev pub next_slot : ℕ → ℕ → ℕ
 next_slot rows slot = cond (nat_lt (slot + 1) rows) (slot + 1) 0
 
 -- line l, if it is one of the last n before `line`, stands in its slot
-abbrev pub Ring : {K C : Type 0} → Lattice C → (K → C) → C → Sheet K → Plan → ℕ → List K → ℕ → ℕ → ℕ → Type 0
-Ring k f z s p w table slot line n =
+abbrev pub InRing : {K C : Type 0} → Lattice C → (K → C) → C → Sheet K → Plan → ℕ → List K → ℕ → ℕ → ℕ → Type 0
+InRing k f z s p w table slot line n =
     (l : ℕ) → l < line → line ≤ l + n →
     Holds k f z s p w table (slot_of p.rows slot (l + p.rows - line) * length p.lengths * (w + 30)) l
 
 -- places without a cell stand as the course's padding
 abbrev pub Stands : {K C : Type 0} → Lattice C → (K → C) → Course K → Sheet K → List K → ℕ → ℕ → ℕ → Type 0
-Stands k f c s table slot line n = Ring k f (f c.pad) s c.plan c.width table slot line n
+Stands k f c s table slot line n = InRing k f (f c.pad) s c.plan c.width table slot line n
 
 -- entry x is the greatest lower bound of all that the chords show at (x, y)
 abbrev pub Gathered : {K C : Type 0} → Lattice C → (K → C) → C → Sheet K → Plan → ℕ → List K → ℕ → ℕ → Type 0

@@ -13,11 +13,11 @@ pub(crate) struct Course<K> {
 }
 
 impl<K> Course<K> {
-    // How many cells a line of the table has: those of a row, with 15 on either side.
+    // How many cells a line of the table has.
     pub(crate) fn stride(&self) -> usize
         ensures { result ≡ self.now.width + 30 }
     {
-        self.width + 30
+        stride(self.width)
     }
 
     // How many cells the lines of a slot have: one for each length.
@@ -26,4 +26,12 @@ impl<K> Course<K> {
     {
         self.plan.lengths.as_slice().len() * self.stride()
     }
+}
+
+// How many cells a line of the table has, for sheets of the width: those of a row, with 15 on either side.
+pub(crate) fn stride(width: usize) -> usize
+    requires { width ≤ 2048 }
+    ensures { result ≡ width + 30 }
+{
+    width + 30
 }

@@ -10,6 +10,7 @@ ghost use Rattle.plans.specs.Plan.{PlanOf};
 ghost use Rattle.filters.specs.Side.{side};
 ghost use Rattle.filters.specs.Calls.{verdict, answered, eroded_by, WhereRefused};
 
+use crate::course::stride;
 use crate::side::{Joins, Meets, Side};
 use crate::sweep::sweep;
 use cells::kind::Kind;
@@ -69,7 +70,7 @@ pub(crate) fn admit(size: Size, plan: &Plan, cells: usize) -> Result<(), Refusal
     if !can_filter(size) {
         return Err(Refusal::WrongSize(size));
     }
-    let needed = plan.rows * plan.lengths.as_slice().len() * (size.width + 30);
+    let needed = plan.rows * plan.lengths.as_slice().len() * stride(size.width);
     if cells < needed {
         return Err(Refusal::ShortTable {
             needed,

@@ -54,7 +54,8 @@ fn turned_column(column: usize, length: usize) -> usize
     (-last + 15) as usize
 }
 
-// The row or the column of an offset, counted from -15.
+// The row or the column of an offset, counted from -15. The crate masks has the same for itself: what is public asks nothing of
+// its callers, and an Option would give each of them a case that never comes.
 pub(crate) fn grid_place(offset: i32) -> usize
     requires { Near offset }
     ensures { pos result ≡ offset +ℤ pos 15 }

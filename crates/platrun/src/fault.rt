@@ -1,29 +1,27 @@
 // What can keep a job from being run, and the line that says so.
 ghost use Rattle.std.specs.Prelude.{◌≡◌};
-ghost use Rattle.platrun.specs.declared.fault.RunFault.TheVariants.{Memory, Unwritten};
+ghost use Rattle.platrun.specs.declared.fault.RunFault.TheVariants.{Input, Memory, Unwritten};
 
 use std::alloc::AllocError;
-use std::io::ErrorKind;
 use std::{fmt, io};
+use texts::input::InputFault;
 
 // None of these says anything of the job.
 #[derive(Clone, Copy, PartialEq, Eq, Debug)]
 pub enum RunFault {
-    // The strip cannot be read.
-    Unread,
+    // The input gives no strip.
+    Input(InputFault),
     // The listing cannot be written.
     Unwritten,
     // There is no memory for it.
     Memory,
 }
 
-impl RunFault {
-    // Why input was not read.
-    pub fn unread(fault: io::Error) -> RunFault {
-        match fault.kind() {
-            ErrorKind::OutOfMemory => RunFault::Memory,
-            _ => RunFault::Unread,
-        }
+impl From<InputFault> for RunFault {
+    ghost from_gives = { λ f r. r ≡ Input f };
+
+    fn from(fault: InputFault) -> RunFault {
+        RunFault::Input(fault)
     }
 }
 
@@ -36,6 +34,7 @@ impl From<AllocError> for RunFault {
     }
 }
 
+// Input has a fault of its own, so that this is one of writing.
 impl From<io::Error> for RunFault {
     ghost from_gives = { λ _ r. r ≡ Unwritten };
 
@@ -46,10 +45,10 @@ impl From<io::Error> for RunFault {
 
 impl fmt::Display for RunFault {
     fn fmt<W: fmt::Write>(&self, f: &mut fmt::Formatter<W>) -> fmt::Result {
-        match self {
-            RunFault::Unread => write!(f, "the strip cannot be read"),
-            RunFault::Unwritten => write!(f, "the listing cannot be written"),
-            RunFault::Memory => write!(f, "there is not enough memory"),
-        }
+        f.write_str(match self {
+            RunFault::Input(InputFault::Memory) | RunFault::Memory => "there is not enough memory",
+            RunFault::Input(InputFault::NoText | InputFault::Unread) => "the strip cannot be read",
+            RunFault::Unwritten => "the listing cannot be written",
+        })
     }
 }

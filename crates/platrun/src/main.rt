@@ -8,15 +8,11 @@ use fault::RunFault;
 use jobs::run::run_to_text;
 use std::io::Read;
 use std::process::ExitCode;
+use texts::ending::ended;
+use texts::input::InputFault;
 
 fn main(rt: HostRuntime) -> ExitCode {
-    match run(&rt) {
-        Ok(()) => ExitCode::SUCCESS,
-        Err(fault) => {
-            let _ = eprintln!(rt; "platrun: {fault}");
-            ExitCode::FAILURE
-        }
-    }
+    ended(&rt, "platrun", run(&rt))
 }
 
 // Reads a strip and runs its job; then prints the listing. A strip that is refused is listed, too.
@@ -28,10 +24,8 @@ fn run(rt: &HostRuntime) -> Result<(), RunFault> {
 }
 
 // The bytes of standard input.
-fn input(rt: &HostRuntime) -> Result<Vec<u8>, RunFault> {
+fn input(rt: &HostRuntime) -> Result<Vec<u8>, InputFault> {
     let mut bytes = Vec::new(rt.alloc());
-    rt.reader()
-        .read_to_end(&mut bytes)
-        .map_err(RunFault::unread)?;
+    rt.reader().read_to_end(&mut bytes)?;
     Ok(bytes)
 }

@@ -6,7 +6,7 @@ use Rattle.filters.specs.declared.course.Course.{Course}
 use Rattle.filters.specs.Side.{side}
 use Rattle.filters.specs.Line.{held, Beside}
 use Rattle.filters.specs.Row.{run_of, picked}
-use Rattle.filters.specs.Sweep.{next_slot, Ring, Stands, Laid}
+use Rattle.filters.specs.Sweep.{next_slot, InRing, Stands, Laid}
 use Rattle.filters.proofs.Bests.{best_at}
 use Rattle.filters.proofs.Rings.{holds_sheet, ring_more, ring_less, through_best}
 use Rattle.filters.proofs.Rooms.{part_room}
@@ -18,7 +18,7 @@ Finished k f s new slot y c = Laid k f c s new (slot * length c.plan.lengths * (
 
 -- a full ring shows all that the row's chords do, and the row is laid over its oldest line
 finish : {K C : Type 0} (k : Lattice C) (f : K → C) (c : Course K) (s : Sheet K) (mid new : List K) (slot y : ℕ) → slot < c.plan.rows →
-    Ring k f (f c.pad) s c.plan c.width mid slot (y + c.plan.rows) (c.plan.rows - 1 + 1) →
+    InRing k f (f c.pad) s c.plan c.width mid slot (y + c.plan.rows) (c.plan.rows - 1 + 1) →
     ((x : ℕ) → x < c.width → held k f new (slot * length c.plan.lengths * (c.width + 30) + x) ≡ picked k (run_of f k.greatest mid c.plan (c.width + 30) slot x) (length c.plan.chords.items - 1)) →
     Beside f mid new (slot * length c.plan.lengths * (c.width + 30)) (slot * length c.plan.lengths * (c.width + 30) + c.width) →
     Finished k f s new slot y c
@@ -28,7 +28,7 @@ finish k f c s mid new slot y in_ring R cells B =
     let less : p.rows - 1 < p.rows = omega (arith, p.sound.origin) in
     let every : p.rows - 1 + 1 ≡ p.rows = omega (arith, p.sound.origin) in
     let room = part_room 0 (length p.lengths) (c.width + 30) p.sound.some_length in (
-      λ x h. best_at k _ _ _ (cells x h) (through_best k f z s p c.width mid slot (y + p.rows) x y h refl (subst (Ring k f z s p c.width mid slot (y + p.rows)) every R)),
+      λ x h. best_at k _ _ _ (cells x h) (through_best k f z s p c.width mid slot (y + p.rows) x y h refl (subst (InRing k f z s p c.width mid slot (y + p.rows)) every R)),
       ring_less k f z s p c.width mid new slot (y + p.rows) (p.rows - 1) in_ring less (record { before = B.before; after = λ v x h. B.after v x (omega (arith, room)) }) R,
     )
 
@@ -56,11 +56,11 @@ returns-clause-row g c =
     let next = c.take-taken.new.self.slot in
     let e : next ≡ next_slot p.rows slot = taken.slot in
     λ s same R.
-    let full : Ring k f z s p w mid next (y + p.rows) (p.rows - 1 + 1) =
-    subst (λ (n : ℕ). Ring k f z s p w mid n (y + p.rows) (p.rows - 1 + 1)) (sym e)
-    (subst (λ (l : ℕ). Ring k f z s p w mid (next_slot p.rows slot) l (p.rows - 1 + 1)) all
+    let full : InRing k f z s p w mid next (y + p.rows) (p.rows - 1 + 1) =
+    subst (λ (n : ℕ). InRing k f z s p w mid n (y + p.rows) (p.rows - 1 + 1)) (sym e)
+    (subst (λ (l : ℕ). InRing k f z s p w mid (next_slot p.rows slot) l (p.rows - 1 + 1)) all
     (ring_more k f z s p w old mid slot line (p.rows - 1) in_ring less taken.beside
     (holds_sheet k f z s p w (g.H.Holder.sheet c.args.h.now) mid (slot * length p.lengths * (w + 30)) line y same low taken.holds) R)) in
     subst (Finished k f s new next y) taken.course (finish k f c.take-taken.new.self.course s mid new next y c.take-taken.new.self.due
-    (subst (λ (x : Course g.row.K.Denot). Ring k f (f x.pad) s x.plan x.width mid next (y + x.plan.rows) (x.plan.rows - 1 + 1)) (sym taken.course) full)
+    (subst (λ (x : Course g.row.K.Denot). InRing k f (f x.pad) s x.plan x.width mid next (y + x.plan.rows) (x.plan.rows - 1 + 1)) (sym taken.course) full)
     (picked.cells k.greatest) picked.beside)
