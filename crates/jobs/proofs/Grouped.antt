@@ -21,7 +21,7 @@ pub runs : Runs
 runs = record {
   call = λ w r q ss.
       run_taken w [] r (steps.Call q ∷ ss)
-      ∙ ap (λ (n : ℕ). closed w (run_points r) (Filter q ∷ acts (w + n + 1) [] ss)) (length-map r (λ p. point_of p));
+      ∙ ap (λ (n : ℕ). closed w (run_points r) (Filter q ∷ acts (w + n + 1) [] ss)) (length-map r point_of);
   end = λ w r.
       ap (acts w []) (sym (append-nil (run_steps r))) ∙ run_taken w [] r [];
 }

@@ -24,7 +24,7 @@ abbrev pub Masks : Type 0
 Masks = (ps : List Point) → refused ps ≡ None → MaskOf ps (mask_of ps)
 
 abbrev pub run_steps : List PointFields → List Step
-run_steps r = map (λ p. steps.Point p) r
+run_steps r = map steps.Point r
 
 abbrev pub run_points : List PointFields → List Point
 run_points r = map point_of r

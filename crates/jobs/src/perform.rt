@@ -1,10 +1,10 @@
-// The acts of a job on its topmost sheet, as lines. Its rows are gone through by number, since the places of a holder are no
-// list.
-ghost use Rattle.std.specs.Prelude.{◌≡◌, ◌++◌, length, IfOk};
+// The acts of a job on its topmost sheet, as lines.
+ghost use Rattle.std.specs.Prelude.{◌≡◌, ◌++◌, map, length, IfOk};
+ghost use Rattle.std.specs.List.{filter_map, range_with_len};
 ghost use Rattle.masks.specs.Chords.{chords};
 ghost use Rattle.masks.specs.Rows.{points};
 ghost use Rattle.worksheets.specs.Performed.{state};
-ghost use Rattle.jobs.specs.Listings.{line_of, left_by, left, lines, row, rows, Lists};
+ghost use Rattle.jobs.specs.Listings.{line_of, left_by, left, lines, rows, Lists};
 
 use crate::act::Act;
 use crate::fault::JobFault;
@@ -122,25 +122,25 @@ where
     H::Cell: Listed,
     ensures { IfOk result (λ _. so_far.new.items ≡ so_far.old.items ++ rows kind H.Cell.Listed.listed (H.Holder.sheet holder.now)) }
 {
+    // By number, since what a holder shows is no list of rows.
     for y in 0..holder.size().height {
-        let row = row(heap, holder, y)?;
-        so_far.push(Line::Cells(kind, row))?;
+        let words = words_of(heap, holder, y)?;
+        so_far.push(Line::Cells(kind, Row::new(words)))?;
     }
     Ok(())
 }
 
-// The words of row y.
-fn row<H>(heap: Global, holder: &H, y: usize) -> Result<Row, AllocError>
+// The words of row y, of the places that have a cell.
+fn words_of<H>(heap: Global, holder: &H, y: usize) -> Result<Vec<u32>, AllocError>
 where
     H: Holder,
     H::Cell: Listed,
-    ensures { IfOk result (λ r. r ≡ row H.Cell.Listed.listed (H.Holder.sheet holder.now) y) }
+    ensures { IfOk result (λ v. v.items ≡ map H.Cell.Listed.listed (filter_map (λ x. (H.Holder.sheet holder.now).cell x y) (range_with_len 0 (H.Holder.sheet holder.now).width))) }
 {
-    let mut words = Vec::new(heap);
-    for x in 0..holder.size().width {
-        if let Some(cell) = holder.cell(x, y) {
-            words.push(cell.word())?;
-        }
-    }
-    Ok(Row::new(words))
+    Ok(
+        (0..holder.size().width)
+            .filter_map(|x| holder.cell(x, y))
+            .map(|cell| cell.word())
+            .collect(heap)?,
+    )
 }
