@@ -42,11 +42,13 @@ struct Acts {
     done: Vec<Act>,
     first: usize,
     run: Vec<Point>,
+    ghost short: { first + length run.items < 2 ^ 63 },
 }
 
 impl Acts {
     // No acts, before the step that is that word.
     fn new(heap: Global, first: usize) -> Acts
+        requires { first < 2 ^ 63 }
         ensures done { result.done.items ≡ [] }
         ensures run { result.run.items ≡ [] }
         ensures first { result.first ≡ first }
@@ -60,6 +62,7 @@ impl Acts {
 
     // A point lengthens the run.
     fn point(&mut self, point: Point) -> Result<(), AllocError>
+        requires { self.now.first + length self.now.run.items + 1 < 2 ^ 63 }
         ensures run { IfOk result (λ _. self.new.run.items ≡ self.old.run.items ++ point ∷ []) }
         ensures done { self.new.done.items ≡ self.old.done.items }
         ensures first { self.new.first ≡ self.old.first }
@@ -84,7 +87,6 @@ impl Acts {
 
     // The acts, once the run is closed.
     fn end(mut self) -> Result<Vec<Act>, AllocError>
-        requires { self.first + length self.run.items < 2 ^ 63 }
         ensures { IfOk result (λ v. Closes self.first self.run.items self.done.items v.items) }
     {
         self.close()?;
@@ -93,7 +95,6 @@ impl Acts {
 
     // Puts what comes of the run behind the acts, if the run has points.
     fn close(&mut self) -> Result<(), AllocError>
-        requires { self.now.first + length self.now.run.items < 2 ^ 63 }
         ensures done { IfOk result (λ _. Closes self.old.first self.old.run.items self.old.done.items self.new.done.items) }
         ensures first { self.new.first ≡ self.old.first }
         ensures run { self.new.run.items ≡ self.old.run.items }
@@ -107,7 +108,6 @@ impl Acts {
 
     // The mask of the run.
     fn mask(&self) -> Result<Mask, PointsFault>
-        requires { self.now.first + length self.now.run.items < 2 ^ 63 }
         ensures { AlikeAct (Run result) (act_of self.now.first self.now.run.items) }
     {
         let first = self.first;
