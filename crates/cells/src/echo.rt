@@ -18,7 +18,8 @@ pub struct Return {
 }
 
 impl Return {
-    // The whole number by which returns are ordered; no derive orders floats.
+    // The whole number by which returns are ordered. It is the word of the definitions, so that a derived order, by the float, would
+    // have to be shown to be the same.
     pub fn rank(self) -> i32
         ensures { result ≡ rank (to_bits binary32 self.strength) }
     {
@@ -53,6 +54,7 @@ impl Kind for ReturnBits {
 
     ghost means = { λ r. return_cell r.0 };
 
+    // By `min_by_key` and `max_by_key`, that the key of the closure is the rank would stay open.
     fn meet(self, other: ReturnBits) -> ReturnBits {
         let a = Return::from(self);
         let b = Return::from(other);

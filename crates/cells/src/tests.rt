@@ -6,7 +6,6 @@ use crate::height::Height;
 use crate::kind::{Kind, Measured, Ranked};
 use crate::threshold::Threshold;
 use crate::words::WordForm;
-use std::test::Fail;
 
 #[test]
 fn gray_words_end_at_255(rt: HostRuntime) {
@@ -75,17 +74,11 @@ fn flags_meet_in_the_marks_of_both(rt: HostRuntime) {
 }
 
 #[test]
-fn there_is_no_threshold_at_0(rt: HostRuntime) -> Result<(), Fail> {
+fn there_is_no_threshold_at_0(rt: HostRuntime) {
     assert!(rt; Threshold::new(0).is_none());
-    match Threshold::new(9) {
-        Some(t) => {
-            assert_eq!(rt; t.apply(Gray(8)), Flags(0));
-            assert_eq!(rt; t.apply(Gray(9)), Flags(255));
-            Ok(())
-        }
-        None => {
-            assert!(rt; false);
-            Ok(())
-        },
-    }
+    assert_eq!(rt; Threshold::new(9).map(|t| t.apply(Gray(8))), Some(Flags(0)));
+    assert_eq!(rt;
+        Threshold::new(9).map(|t| t.apply(Gray(9))),
+        Some(Flags(255))
+    );
 }

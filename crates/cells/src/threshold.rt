@@ -19,6 +19,7 @@ impl Threshold {
     pub fn new(level: u8) -> Option<Threshold>
         ensures { MatchOption result (level ≡ 0) (λ t. t.level ≡ level) }
     {
+        // By `then`, the closure would not know that the level is not 0.
         if level == 0 {
             None
         } else {

@@ -77,11 +77,7 @@ impl WordForm for ReturnBits {
     ghost writes = { λ r. counted r.0 };
 
     fn from_word(word: u32) -> Option<ReturnBits> {
-        if is_not_a_number(word) {
-            None
-        } else {
-            Some(ReturnBits::from(Return::from(ReturnBits(word))))
-        }
+        (!is_not_a_number(word)).then(|| ReturnBits::from(Return::from(ReturnBits(word))))
     }
 
     fn to_word(self) -> u32 {
@@ -89,7 +85,7 @@ impl WordForm for ReturnBits {
     }
 }
 
-// Whether the bits are those of no number.
+// Whether the bits are those of no number. Of such bits no float can be made, which could be asked itself.
 fn is_not_a_number(bits: u32) -> bool
     ensures { result ≡ not_a_number bits }
 {

@@ -1,7 +1,11 @@
 -- The lines of the table, length by length.
 use borrow.Rule.Slice.PartMut.{put_mid}
-use Rattle.std.proofs.Common.{◌≡◌, ℕ, ◌+◌, ◌-◌, ◌*◌, ◌<◌, ◌≤◌, List, [], ◌∷◌, length, get_or, take, drop, sum_by, sym, refl, ap, ◌∙◌, subst, arith, below_more}
-use Rattle.std.proofs.lemmas.List.{length-take-le, take_more, drop-append-le}
+use Rattle.std.proofs.Common.{◌≡◌, ℕ, ◌+◌, ◌-◌, ◌*◌, ◌<◌, ◌≤◌, List, [], ◌∷◌, length, get_or, take, drop, sum_by, sym, ap, ◌∙◌, subst, arith, below_more}
+use Rattle.std.specs.List.{enumerate_from, zip}
+use Rattle.std.proofs.lemmas.Grind.{get_or_after_one, get_or_default_zero}
+use Rattle.std.proofs.lemmas.List.FromFn.{length-enumerate_from, get_or-enumerate_from}
+use Rattle.std.proofs.lemmas.Slice.Zip.{length-zip, get_or-zip}
+use Rattle.std.proofs.lemmas.List.{length-take, length-drop, get_or-take, length-take-le, take_more, drop-append-le}
 use Rattle.std.proofs.lemmas.List.Sums.{sum_by_push}
 use Rattle.cells.specs.Lattice.{Lattice, Under}
 use Rattle.masks.specs.Cost.{line_picks}
@@ -10,20 +14,8 @@ use Rattle.plans.specs.declared.plan.Plan.{Plan}
 use Rattle.plans.specs.Plan.{length_of}
 use Rattle.filters.specs.Line.{or_else, place, held, Runs, Holds}
 use Rattle.filters.proofs.Entries.{at_part}
-use Rattle.filters.proofs.Bests.{best_same, best_one, best_at, best_runs}
+use Rattle.filters.proofs.Bests.{best_same, best_at, best_runs}
 use Rattle.filters.proofs.Rooms.{part_room}
-
--- a line of single cells
-pub runs_first : {K C : Type 0} (k : Lattice C) (f : K → C) (p : Plan) (w : ℕ) (t : List K) → length_of p 0 ≡ 1 →
-    Runs k f (λ x a. Under k a (held k f t x)) p w t 0 1
-runs_first k f p w t e i h c l =
-    let i0 : i ≡ 0 = omega arith in
-    let n1 : length_of p i ≡ 1 = ap (length_of p) i0 ∙ e in
-    let at0 : 0 + i * (w + 30) + c ≡ c + 0 = ap (λ (n : ℕ). 0 + n * (w + 30) + c) i0 ∙ (omega arith) in
-    best_same k (λ a. Under k a (held k f t (c + 0))) (λ a. (j : ℕ) → j < length_of p i → Under k a (held k f t (c + j))) _
-    (λ a u j h2. let j0 : 0 ≡ j = omega arith in subst (λ (n : ℕ). Under k a (held k f t (c + n))) j0 u)
-    (λ a u. u 0 (omega arith))
-    (best_at k _ _ _ (ap (held k f t) at0) (best_one k (held k f t (c + 0))))
 
 -- one length more
 pub runs_more : {K C : Type 0} (k : Lattice C) (f : K → C) (G : ℕ → C → Type 0) (p : Plan) (w : ℕ) (old new : List K) (start i : ℕ) → 1 ≤ i → i < length p.lengths →
@@ -78,13 +70,33 @@ holds_part k f z s p w table lines start l m room long H i h c lc =
     best_at k _ _ _ (ap (held k f (put_mid start m table lines)) e ∙ at_part f k.greatest start m table lines room (0 + i * (w + 30) + c) (omega (arith, in_slot, low, long, lc))) (H i h c lc)
 
 -- the picks of a line, one length more
-pub picks_none : (w : ℕ) (xs : List ℕ) → line_picks w (take 1 xs) ≡ 0
-picks_none w [] = refl
-picks_none w (x ∷ xs) = refl
-
 pub picks_more : (w : ℕ) (xs : List ℕ) (i : ℕ) → 1 ≤ i → i < length xs → line_picks w (take (i + 1) xs) ≡ line_picks w (take i xs) + (w + 31 - get_or xs i 0)
 picks_more w xs i h l =
     let e : length (take i xs) ≡ i = length-take-le i xs (omega arith) in
     ap (line_picks w) (take_more xs i 0 l)
     ∙ ap (sum_by (λ a. w + 31 - a)) (drop-append-le 1 (take i xs) (get_or xs i 0 ∷ []) (omega (arith, e)))
     ∙ sum_by_push (λ a. w + 31 - a) (drop 1 (take i xs)) (get_or xs i 0)
+
+-- a length and the one after it, as they are gone through together
+pub neighbours : (xs : List ℕ) (m i x a b : ℕ) → m ≡ length xs - 1 → i < length (enumerate_from 0 (zip xs (take m (drop 1 xs)))) →
+    ◌≡◌ {A = ℕ × (ℕ × ℕ)} (x, (a, b)) (get_or (enumerate_from 0 (zip xs (take m (drop 1 xs)))) i (x, (a, b))) →
+    (x ≡ i) × (i + 1 < length xs) × (a ≡ get_or xs i 0) × (b ≡ get_or xs (i + 1) 0)
+neighbours xs m i x a b e h p =
+    let ys = take m (drop 1 xs) in
+    let n = length-enumerate_from 0 (zip xs ys) in
+    let z = length-zip xs ys in
+    let t = length-take m (drop 1 xs) in
+    let d = length-drop 1 xs in
+    let both : i < length (zip xs ys) = omega arith in
+    let left : i < length xs = omega arith in
+    let right : i < length ys = omega arith in
+    let room : i < m = omega arith in
+    let next : i + 1 < length xs = omega arith in
+    let q = p ∙ get_or-enumerate_from 0 (zip xs ys) i (x, (a, b)) both ∙ ap (λ (u : ℕ × ℕ). (0 + i, u)) (get_or-zip xs ys i (a, b) left right) in
+    let first : x ≡ 0 + i = ap (λ (u : ℕ × (ℕ × ℕ)). u.0) q in
+    let after : 1 + i ≡ i + 1 = omega arith in (
+      omega arith,
+      next,
+      ap (λ (u : ℕ × (ℕ × ℕ)). u.1.0) q ∙ get_or_default_zero xs i a left,
+      ap (λ (u : ℕ × (ℕ × ℕ)). u.1.1) q ∙ get_or-take m (drop 1 xs) i b room ∙ get_or_after_one xs i b ∙ ap (λ (k : ℕ). get_or xs k b) after ∙ get_or_default_zero xs (i + 1) b next,
+    )

@@ -24,9 +24,6 @@ slot_newest rows slot r a b = grind (arith, nat_tests)
 slot_apart : (rows slot r : ℕ) → slot < rows → r < rows → 1 ≤ r → slot_of rows slot r ≢ slot
 slot_apart rows slot r a b d = grind (arith, nat_tests)
 
-pub slot_in : (rows slot : ℕ) → slot < rows → next_slot rows slot < rows
-slot_in rows slot h = grind (arith, nat_tests)
-
 -- while the ring fills, the slots follow one after the other
 pub slot_filling : (rows slot : ℕ) → slot + 1 < rows → next_slot rows slot ≡ slot + 1
 slot_filling rows slot h = grind (arith, nat_tests)

@@ -1,5 +1,5 @@
 -- Where the parts of the table begin and end.
-use Rattle.std.proofs.Common.{◌≡◌, ℕ, ◌+◌, ◌-◌, ◌*◌, ◌<◌, ◌≤◌, sym, ap, ◌∙◌, mul-le-mul_right, add-mul, one-mul, mul-one, mul-add, arith}
+use Rattle.std.proofs.Common.{◌≡◌, ℕ, ◌+◌, ◌-◌, ◌*◌, ◌<◌, ◌≤◌, ap, ◌∙◌, mul-le-mul_right, add-mul, one-mul, mul-add, arith}
 
 -- part i of n parts of s entries has room
 pub part_room : (i n s : ℕ) → i < n → i * s + s ≤ n * s
@@ -23,9 +23,6 @@ run_room s rows n i stride column a b c =
 -- one part more
 pub times_more : (m n a : ℕ) → n ≡ m + 1 → n * a ≡ m * a + a
 times_more m n a e = ap (λ (i : ℕ). i * a) e ∙ add-mul m 1 a ∙ ap (λ (i : ℕ). m * a + i) (one-mul a)
-
-pub mul_more : (w k m : ℕ) → k + 1 ≡ m → w * m ≡ w * k + w
-mul_more w k m e = ap (λ (n : ℕ). w * n) (sym e) ∙ mul-add w k 1 ∙ ap (λ (n : ℕ). w * k + n) (mul-one w)
 
 -- the picks line by line and row by row, as one sum
 pub rows_picks : (h rows line row : ℕ) → 1 ≤ rows → (rows - 1) * line + h * (line + row) ≡ (h + rows - 1) * line + h * row

@@ -63,6 +63,8 @@ where
 
 // Whether a filter of a sheet of the size goes ahead by the plan with a table of so many cells, or why not: first the size is
 // tried, then the table.
+// That the size is small is asked by those who go on, and told by no type: it is the holder's size that they go by, and a type
+// would have to be shown to have it.
 pub(crate) fn admit(size: Size, plan: &Plan, cells: usize) -> Result<(), Refusal>
     ensures verdict { (m : Mask) (ps : List Point) → PlanOf m.rows ps plan.now → MatchResult result (λ _. judged size.width size.height (Some m) cells ≡ Ok m) (λ r. judged size.width size.height (Some m) cells ≡ Err r) }
     ensures room { IfOk result (λ _. ((1 ≤ size.width) × (size.width ≤ 2048)) × ((1 ≤ size.height) × (size.height ≤ 2048)) × (plan.now.rows * length plan.now.lengths * (size.width + 30) ≤ cells)) }

@@ -62,7 +62,7 @@ where
 }
 
 // The cells of row `y` from column `from` on. Where all of them lie on the sheet, or none does, the loop copies or fills. It
-// goes by number, since the places of a holder are no list.
+// goes by number, since nothing is known of a slice behind an adapter of its iter_mut.
 #[inline(always)]
 fn read_cells<H: Holder>(h: &H, y: usize, from: usize, pad: H::Cell, cells: &mut [H::Cell])
 where
@@ -84,8 +84,7 @@ fn fill<K: Kind>(pad: K, cells: &mut [K])
     }
 }
 
-// The longer runs of a line, each length from the one before. The place of a length tells where its runs begin, so that the
-// loop goes by number.
+// The longer runs of a line, each length from the one before. The place of a length tells where its runs begin.
 fn build<K: Kind, S: Side>(course: &Course<K>, lines: &mut [K]) -> u64
     requires { length lines.old ≡ length course.now.plan.lengths * (course.now.width + 30) }
     ensures few { result ≤ 31 * 2078 }
@@ -95,15 +94,13 @@ fn build<K: Kind, S: Side>(course: &Course<K>, lines: &mut [K]) -> u64
     let stride = course.stride();
     let lengths = course.plan.lengths.as_slice();
     let mut picks = 0;
-    for i in 1..lengths.len() {
-        let longer = lengths[i];
-        let shorter = lengths[i - 1];
+    for (i, (shorter, longer)) in lengths.iter().zip(&lengths[1..]).enumerate() {
         picks += lengthen::<K, S>(
             lines,
-            (i - 1) * stride,
             i * stride,
-            stride + 1 - longer,
-            longer - shorter,
+            (i + 1) * stride,
+            stride + 1 - *longer,
+            *longer - *shorter,
         );
     }
     picks

@@ -113,7 +113,7 @@ impl<K: Kind> Ring<K> {
     pub(crate) fn start(&self) -> usize
         ensures { result ≡ self.now.slot * length self.now.course.plan.lengths * (self.now.course.width + 30) }
     {
-        self.slot * self.course.plan.lengths.as_slice().len() * self.course.stride()
+        self.slot * self.course.slot_cells()
     }
 
     // The row that was gathered last.

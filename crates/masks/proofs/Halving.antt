@@ -1,8 +1,8 @@
 -- The rule of the length list, from 31 down.
-use Rattle.std.proofs.Common.{◌≡◌, ℕ, zero, suc, ◌+◌, ◌-◌, ◌/◌, ◌<◌, ◌≤◌, Bool, true, false, cond, not, ◌&&◌, leb, ◌≢◌, List, [], ◌∷◌, ◌++◌, reverse, length, get_or, take, drop, set, replicate, fold, filter, sym, refl, ap, ◌∙◌, subst, inl, inr, add-one, arith}
-use Rattle.std.specs.List.{range_with_len, list_any, AllByRecursion}
+use Rattle.std.proofs.Common.{◌≡◌, ℕ, zero, suc, ◌+◌, ◌-◌, ◌/◌, ◌<◌, ◌≤◌, Bool, true, false, cond, not, ◌&&◌, ◌||◌, leb, ◌≢◌, List, [], ◌∷◌, ◌++◌, reverse, length, get_or, take, drop, set, replicate, fold, filter, sym, refl, ap, ◌∙◌, subst, ap₂, inl, inr, add-one, arith}
+use Rattle.std.specs.List.{range_with_len, list_any, enumerate_from, AllByRecursion}
 use Rattle.std.proofs.lemmas.Grind.{get_or_after_one}
-use Rattle.std.proofs.lemmas.List.{length-set, length-take, get_or-take, get_or-set_same, get_or-set_other, reverse-append}
+use Rattle.std.proofs.lemmas.List.{length-set, length-take, length-take-le, get_or-take, get_or-set_same, get_or-set_other, reverse-append}
 use Rattle.std.proofs.ByRecursion.{All-weaker}
 use Rattle.std.proofs.lemmas.List.Sums.{fold_push, fold_more}
 use Rattle.std.proofs.lemmas.Bool.{cases_Bool, cases_eq, cases_lt, both_ways, and_parts, or_cases, leb-true, cond-true, cond-false}
@@ -28,6 +28,22 @@ halved_down_more s a h = ap (fold halved_at s) (down_more a h) ∙ fold_push hal
 pub halved_down_all : (s : List Bool) → halved_down s 2 ≡ halved s
 unfolding halved
 halved_down_all s = refl
+
+-- entries with their numbers, one of which passes, are the numbers that pass by their entries
+any_numbered : (s : List Bool) (a : ℕ) (xs : List Bool) (k : ℕ) → ((i : ℕ) → i < length xs → listed s (k + i) ≡ get_or xs i false) →
+    list_any (λ (p : ℕ × Bool). p.1 && leb a (p.0 + p.0)) (enumerate_from k xs) ≡ list_any (λ b. listed s b && leb a (b + b)) (range_with_len k (length xs))
+any_numbered s a [] k h = refl
+any_numbered s a (x ∷ xs) k h =
+    let z : k ≡ k + 0 = omega arith in
+    ap₂ (λ (t u : Bool). t || u)
+    (ap (λ (t : Bool). t && leb a (k + k)) (sym (ap (listed s) z ∙ h 0 (omega arith))))
+    (any_numbered s a xs (k + 1) (λ i l. let e : k + 1 + i ≡ k + suc i = omega arith in ap (listed s) e ∙ h (suc i) (omega arith)))
+
+pub reached_numbered : (s : List Bool) (a : ℕ) → a ≤ length s → list_any (λ (p : ℕ × Bool). p.1 && leb a (p.0 + p.0)) (enumerate_from 0 (take a s)) ≡ reached s a a
+reached_numbered s a h =
+    let long : length (take a s) ≡ a = length-take-le a s h in
+    any_numbered s a (take a s) 0 (λ i l. let e : 0 + i ≡ i = omega arith in ap (listed s) e ∙ sym (get_or-take a s i false (omega (arith, long))))
+    ∙ ap (λ (n : ℕ). list_any (λ b. listed s b && leb a (b + b)) (range_with_len 0 n)) long
 
 -- b is listed, lies below a and reaches a when doubled
 abbrev Near : List Bool → ℕ → ℕ → Type 0

@@ -1,9 +1,9 @@
 -- What stands in a list that was made from others, and lists that grow by one.
-use Rattle.std.proofs.Common.{◌≡◌, ℕ, zero, suc, ◌+◌, ◌<◌, ◌≤◌, Bool, true, false, cond, ◌⊎◌, List, [], ◌∷◌, ◌++◌, map, length, filter, sym, refl, ap, ◌∙◌, subst, inl, inr, arith}
+use Rattle.std.proofs.Common.{◌≡◌, ℕ, zero, suc, ◌+◌, ◌<◌, ◌≤◌, Bool, true, false, cond, ltb, ◌⊎◌, None, Some, List, [], ◌∷◌, ◌++◌, map, length, filter, sym, refl, ap, ◌∙◌, subst, inl, inr, arith}
 use Rattle.std.specs.List.{range_with_len, flat_map, prefix_len, AllByRecursion}
 use Rattle.std.proofs.lemmas.List.Elements.{filter-append}
 use Rattle.std.proofs.lemmas.List.{append-nil, append_assoc}
-use Rattle.std.proofs.lemmas.Bool.{cases_Bool, cases_eq}
+use Rattle.std.proofs.lemmas.Bool.{cases_Bool, cases_eq, ltb-false}
 use Rattle.masks.specs.Points.{Among}
 
 module _ {X : Type 0} where
@@ -83,6 +83,14 @@ module _ {X : Type 0} (p : X → Bool) where
     | inl e ↦ (e, leading_all xs (let g = rw e at h in omega arith))
     | inr e ↦ absurd (let g = rw e at h in omega arith)
   ]
+
+  none_fail : (b : Bool) (i n : ℕ) → b ≡ ltb i n → None ≡ cond b (Some i) None → n ≤ i
+  none_fail true i n t e = absurd (let z : ◌≡◌ {A = ℕ} 0 1 = cc in omega arith)
+  none_fail false i n t e = ltb-false i n (sym t)
+
+  -- where no first one fails, all pass
+  pub none_beyond : (xs : List X) → None ≡ cond (ltb (prefix_len p xs) (length xs)) (Some (prefix_len p xs)) None → AllByRecursion (λ x. p x ≡ true) xs
+  none_beyond xs e = leading_all xs (none_fail (ltb (prefix_len p xs) (length xs)) (prefix_len p xs) (length xs) refl e)
 
 module _ {X Y : Type 0} (f : X → Y) where
   pub among_map : (xs : List X) (x : X) → Among xs x → Among (map f xs) (f x)

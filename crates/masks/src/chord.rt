@@ -43,7 +43,7 @@ impl ChordList {
         ensures list { result ≡ chords mask.now.rows 31 }
         ensures runs { Chords mask.now.rows (chords mask.now.rows 31) }
     {
-        // By number: a chord tells its row.
+        // By number: what starts in a row is asked by column and row.
         let mut list = ArrayVec::new();
         for r in 0..31 {
             mask.add_row(r, &mut list);

@@ -1,5 +1,5 @@
 // The length list: the run lengths for which a filter's table has lines.
-ghost use Rattle.std.specs.Prelude.{◌≡◌, ◌+◌, ◌<◌, ◌≤◌, not, ◌&&◌, length, nat_le};
+ghost use Rattle.std.specs.Prelude.{◌≡◌, ◌+◌, ◌<◌, ◌≤◌, not, ◌&&◌, length};
 ghost use Rattle.std.specs.List.{AllByRecursion};
 ghost use Rattle.masks.specs.Chords.{chords};
 ghost use Rattle.masks.specs.Lengths.{listed, ticked, reached, halved, rising, lengths, Serves};
@@ -71,14 +71,10 @@ fn reached(ticks: &[bool; 32], a: usize) -> bool
     requires { a < 32 }
     ensures { result ≡ reached ticks.now a a }
 {
-    (0..a).any(|b| reaches(ticks, a, b))
-}
-
-// Whether b is listed and reaches a when doubled.
-fn reaches(ticks: &[bool; 32], a: usize, b: usize) -> bool
-    ensures { result ≡ (listed ticks.now b && nat_le a (b + b)) }
-{
-    b < 32 && ticks[b] && a <= b + b
+    ticks[..a]
+        .iter()
+        .enumerate()
+        .any(|(b, is_listed)| *is_listed && a <= b + b)
 }
 
 // Whether half of a is to join: a is listed, and nothing listed below it reaches it when doubled.

@@ -1,5 +1,5 @@
 // The mask itself: a set of points.
-ghost use Rattle.std.specs.Prelude.{◌≡◌, ℕ, ◌-◌, ◌<◌, ◌≤◌, true, [], ◌∷◌, length, pos, ◌+ℤ◌, Some, None, Ok, Err, ◌≢◌};
+ghost use Rattle.std.specs.Prelude.{◌≡◌, ℕ, ◌-◌, ◌<◌, ◌≤◌, true, [], ◌∷◌, length, pos, ◌+ℤ◌, Some, None, Ok, Err, ◌≢◌, if◌then◌else◌, nat_lt};
 ghost use Rattle.std.specs.List.{prefix_len, AllByRecursion};
 ghost use Rattle.bits.specs.Bit.{bit};
 ghost use Rattle.masks.specs.Points.{Earlier, InOrder, origin, turned, near_offset, near};
@@ -25,11 +25,10 @@ impl Mask {
         if list.is_empty() {
             return Err(MaskFault::NoPoints);
         }
-        let near = near_front(list);
-        if near < list.len() {
-            return Err(MaskFault::Beyond(near));
+        match first_beyond(list) {
+            Some(at) => Err(MaskFault::Beyond(at)),
+            None => Ok(Mask { rows: drawn(list) }),
         }
-        Ok(Mask { rows: drawn(list) })
     }
 
     // The mask of the origin alone.
@@ -54,6 +53,7 @@ impl Mask {
         ensures answer { result ≡ length (points self.now.rows 31) }
         ensures once { InOrder Earlier (points self.now.rows 31) }
     {
+        // By number: a row's points are asked by column and row.
         (0..31).map(|r| self.row_count(r)).sum()
     }
 
@@ -87,7 +87,7 @@ impl Mask {
 fn is_near(p: Point) -> bool
     ensures { result ≡ near p }
 {
-    -15 <= p.u && p.u <= 15 && -15 <= p.v && p.v <= 15
+    (-15..=15).contains(&p.u) && (-15..=15).contains(&p.v)
 }
 
 // The column of an offset u, or the row of an offset v, in the grid whose first column and row are at -15.
@@ -99,11 +99,11 @@ fn grid_place(offset: i32) -> usize
     (offset + 15) as usize
 }
 
-// How many points at the front of the list are near.
-fn near_front(list: &[Point]) -> usize
-    ensures { result ≡ prefix_len near list.now }
+// The place of the first point that is not near, if there is one.
+fn first_beyond(list: &[Point]) -> Option<usize>
+    ensures { result ≡ (if nat_lt (prefix_len near list.now) (length list.now) then Some (prefix_len near list.now) else None) }
 {
-    list.iter().take_while(|p| is_near(**p)).count()
+    list.iter().position(|p| !is_near(*p))
 }
 
 // The rows that have just the listed points, all of which are near.

@@ -37,7 +37,7 @@ pub enum Call {
     Apply(Filter, usize),
 }
 
-// What a call answers.
+// What a call answers. Three cases, and no Result in one of two, since each is told apart in one match.
 #[derive(Clone, Copy, PartialEq, Eq, Debug)]
 pub enum Answer {
     // The mask lies.

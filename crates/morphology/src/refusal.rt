@@ -16,8 +16,8 @@ pub enum Refusal {
     NoMask,
     // The table needs so many cells, and the lent one has fewer.
     ShortTable { needed: usize, lent: usize },
-    // The size of one sheet is not that of the other.
-    UnlikeSizes(Size, Size),
+    // The size of the second sheet is not that of the first.
+    UnlikeSizes { first: Size, second: Size },
 }
 
 impl Refusal {
@@ -29,7 +29,7 @@ impl Refusal {
             Refusal::WrongSize(_) => 9,
             Refusal::NoMask => 10,
             Refusal::ShortTable { .. } => 11,
-            Refusal::UnlikeSizes(_, _) => 12,
+            Refusal::UnlikeSizes { .. } => 12,
         }
     }
 }
@@ -45,5 +45,5 @@ pub fn can_filter(size: Size) -> bool
 fn fits(n: usize) -> bool
     ensures { result ≡ fits n }
 {
-    1 <= n && n <= LONGEST
+    (1..=LONGEST).contains(&n)
 }

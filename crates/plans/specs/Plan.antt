@@ -1,6 +1,4 @@
 -- What a plan says, and when it is the plan of a mask.
---     chord_at cs q         chord q of some
---     Sound above rows ns cs   the chords lie within the rows, the lengths and the columns; the lengths climb by no more than doubling
 --     chord_of p q          chord q of the plan
 --     length_of p i         length i of the plan
 --     long p q              the length of chord q

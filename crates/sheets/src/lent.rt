@@ -52,6 +52,7 @@ impl<'a, C: Copy, L: Layout> Lent<'a, C, L> {
         ensures answer { result ≡ spot (lent_sheet L.room L.place self.now) (L.place self.now.size.width) x y }
         ensures below { IfSome result (λ i. i < length self.now.cells.now) }
     {
+        // By `then`, that the place has a cell would stay open.
         if x < self.size.width && y < self.size.height {
             Some(L::place(self.size.width, x, y))
         } else {

@@ -41,6 +41,7 @@ impl<H: Holder> Window<H> {
     fn place_below(&self, x: usize, y: usize) -> Option<(usize, usize)>
         ensures { result ≡ (if has (window_sheet H.Holder.sheet self.now) x y then Some (self.now.asked.left + x, self.now.asked.top + y) else None) }
     {
+        // By `clipped`, that a place off one of the overlaps has no cell would stay open; by `then`, that the sums fit.
         let size = self.inner.size();
         let asked = self.asked;
         if x < overlap_of(size.width, asked.left, asked.size.width)

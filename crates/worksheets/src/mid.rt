@@ -33,7 +33,10 @@ where
         let size = self.holder.size();
         let other = second.size();
         if size != other {
-            return Err(Refusal::UnlikeSizes(size, other));
+            return Err(Refusal::UnlikeSizes {
+                first: size,
+                second: other,
+            });
         }
         let _ = copy_into(&self.holder, second);
         let opening = self.open(table)?;

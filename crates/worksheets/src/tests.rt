@@ -55,12 +55,12 @@ where
 }
 
 // Holds a row of three cells to what is wanted.
-fn shows<H: Holder>(rt: &impl Abort, sheet: &Worksheet<H>, wanted: [H::Cell; 3])
+fn shows<H: Holder>(rt: &impl Abort, holder: &H, wanted: [H::Cell; 3])
 where
     H::Cell: Kind + PartialEq + Debug,
 {
     for (x, cell) in wanted.iter().enumerate() {
-        assert_eq!(rt; sheet.holder().cell(x, 0), Some(*cell));
+        assert_eq!(rt; holder.cell(x, 0), Some(*cell));
     }
 }
 
@@ -76,18 +76,18 @@ where
 {
     let mut sheet = load(rt, holder, example.loaded)?;
     assert_eq!(rt; sheet.erode(table), Ok(32));
-    shows(rt, &sheet, example.eroded);
+    shows(rt, sheet.holder(), example.eroded);
     let mut sheet = load(rt, sheet.into_holder(), example.loaded)?;
     assert_eq!(rt; sheet.dilate(table), Ok(32));
-    shows(rt, &sheet, example.dilated);
+    shows(rt, sheet.holder(), example.dilated);
     let mut sheet = load(rt, sheet.into_holder(), example.loaded)?;
     assert_eq!(rt; sheet.close(table), Ok(64));
-    shows(rt, &sheet, example.closed);
+    shows(rt, sheet.holder(), example.closed);
     let mut sheet = load(rt, sheet.into_holder(), example.loaded)?;
     assert_eq!(rt; sheet.open(table), Ok(64));
-    shows(rt, &sheet, example.opened);
+    shows(rt, sheet.holder(), example.opened);
     assert_eq!(rt; sheet.close(table), Ok(64));
-    shows(rt, &sheet, example.opened_closed);
+    shows(rt, sheet.holder(), example.opened_closed);
     Ok(())
 }
 
@@ -334,10 +334,8 @@ where
 {
     let mut sheet = load(rt, holder, row)?;
     assert_eq!(rt; sheet.mid(second, table), Ok(128));
-    shows(rt, &sheet, mid);
-    for (x, cell) in closed.iter().enumerate() {
-        assert_eq!(rt; second.cell(x, 0), Some(*cell));
-    }
+    shows(rt, sheet.holder(), mid);
+    shows(rt, second, closed);
     Ok(())
 }
 
@@ -435,7 +433,10 @@ fn a_refused_mid_changes_neither_sheet(rt: HostRuntime) -> Result<(), Fail> {
         width: 4,
         height: 1,
     };
-    let unlike = Refusal::UnlikeSizes(three, four);
+    let unlike = Refusal::UnlikeSizes {
+        first: three,
+        second: four,
+    };
     assert_eq!(rt; sheet.mid(&mut second, &mut table), Err(unlike));
     assert_eq!(rt; unlike.number(), 12);
     assert_eq!(rt; cells, [Gray(7), Gray(9), Gray(4)]);

@@ -1,5 +1,5 @@
--- The runs of the lengths before i are made, from the single cells that the line had at the start.
-use Rattle.std.proofs.Common.{◌≡◌, ◌*◌, ◌≤◌, take}
+-- The runs of the lengths passed, and of the one after them, are made, from the single cells that the line had at the start.
+use Rattle.std.proofs.Common.{◌≡◌, ◌+◌, ◌*◌, ◌≤◌, length, take}
 use Rattle.cells.specs.Lattice.{Under}
 use Rattle.masks.specs.Cost.{line_picks}
 use Rattle.filters.specs.Side.{side}
@@ -8,6 +8,6 @@ use Rattle.filters.proofs.line.build.Given as goal
 
 abbrev pub invariant-loop-i : goal.invariant-loop-i
 invariant-loop-i g l =
-    (l.picks ≤ l.i * 2078) ×
-    (l.picks ≡ line_picks l.course.width (take l.i l.course.plan.lengths)) ×
-    Runs (side g.S.Side.lower g.K.Kind.lattice) g.K.Kind.means (λ x a. Under (side g.S.Side.lower g.K.Kind.lattice) a (held (side g.S.Side.lower g.K.Kind.lattice) g.K.Kind.means l.initial.lines x)) l.course.plan l.course.width l.lines 0 l.i
+    (l.picks ≤ (length l.yielded + 1) * 2078) ×
+    (l.picks ≡ line_picks l.course.width (take (length l.yielded + 1) l.course.plan.lengths)) ×
+    Runs (side g.S.Side.lower g.K.Kind.lattice) g.K.Kind.means (λ x a. Under (side g.S.Side.lower g.K.Kind.lattice) a (held (side g.S.Side.lower g.K.Kind.lattice) g.K.Kind.means l.initial.lines x)) l.course.plan l.course.width l.lines 0 (length l.yielded + 1)
