@@ -6,6 +6,7 @@ ghost use Rattle.strips.specs.declared.item.Item.TheVariants.{Point};
 
 use crate::kind::{CellKind, NoSuchKind};
 use crate::parts::PointFields;
+use crate::words::kind;
 use morphology::call::Filter;
 
 // What a word says, by its kind.
@@ -73,7 +74,7 @@ impl TryFrom<u32> for Item {
 
     #[tactic(auto, unfolding(crate::specs::Items::item_of))]
     fn try_from(word: u32) -> Result<Item, SaysNothing> {
-        item_by(word / 0x1000_0000, word % 0x1000_0000).ok_or(SaysNothing(word))
+        item_by(kind(word), word % 0x1000_0000).ok_or(SaysNothing(word))
     }
 }
 

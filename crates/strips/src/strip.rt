@@ -7,6 +7,7 @@ use crate::fault::{Ground, StripFault};
 use crate::item::Item;
 use crate::kind::CellKind;
 use crate::parts::Shape;
+use crate::words::kind;
 use sheets::holder::Size;
 use sheets::window::Rectangle;
 
@@ -159,7 +160,7 @@ impl<'a> Strip<'a> {
 fn is_corner(word: u32) -> bool
     ensures { result ≡ (kind word == 3) }
 {
-    word / 0x1000_0000 == 3
+    kind(word) == 3
 }
 
 // A word, or what it says, with the number of the word.

@@ -19,21 +19,11 @@ const ORIGIN: u32 = 0x5000_01ef;
 
 const END: u32 = 0x7000_0000;
 
-// Puts the bytes of a word behind those that are there.
-fn put(bytes: &mut Vec<u8>, word: u32) -> Result<(), AllocError> {
-    let [a, b, c, d] = word.to_be_bytes();
-    bytes.push(a)?;
-    bytes.push(b)?;
-    bytes.push(c)?;
-    bytes.push(d)?;
-    Ok(())
-}
-
 // The bytes of these words.
 fn spelled(heap: Global, words: &[u32]) -> Result<Vec<u8>, AllocError> {
     let mut bytes = Vec::new(heap);
     for word in words {
-        put(&mut bytes, *word)?;
+        bytes.extend_from_slice(&word.to_be_bytes())?;
     }
     Ok(bytes)
 }
@@ -64,26 +54,22 @@ fn the_worked_strip_is_accepted(rt: HostRuntime) -> Result<(), Fail> {
         END,
     ];
     let bytes = spelled(rt.alloc(), &words)?;
-    match read(bytes.as_slice()) {
-        Ok(job) => {
-            assert_eq!(rt; job.kind(), CellKind::Gray);
-            assert_eq!(rt; job.width(), 3);
-            assert_eq!(rt; job.height(), 1);
-            assert_eq!(rt; job.raw(0), Some(7));
-            assert_eq!(rt; job.raw(2), Some(4));
-            assert_eq!(rt; job.raw(3), None);
-            assert_eq!(rt; job.window(), None);
-            assert_eq!(rt; job.steps(), 3);
-            assert_eq!(rt;
-                job.step(1),
-                Some(Step::Point(PointFields { u: 16, v: 15 }))
-            );
-            assert_eq!(rt; job.step(2), Some(Step::Call(Filter::Open)));
-            assert_eq!(rt; job.step_place(2), Some(7));
-            assert_eq!(rt; job.step(3), None);
-        }
-        Err(_) => assert!(rt; false),
-    }
+    let job = read(bytes.as_slice())?;
+    assert_eq!(rt; job.kind(), CellKind::Gray);
+    assert_eq!(rt; job.width(), 3);
+    assert_eq!(rt; job.height(), 1);
+    assert_eq!(rt; job.raw(0), Some(7));
+    assert_eq!(rt; job.raw(2), Some(4));
+    assert_eq!(rt; job.raw(3), None);
+    assert_eq!(rt; job.window(), None);
+    assert_eq!(rt; job.steps(), 3);
+    assert_eq!(rt;
+        job.step(1),
+        Some(Step::Point(PointFields { u: 16, v: 15 }))
+    );
+    assert_eq!(rt; job.step(2), Some(Step::Call(Filter::Open)));
+    assert_eq!(rt; job.step_place(2), Some(7));
+    assert_eq!(rt; job.step(3), None);
     Ok(())
 }
 
@@ -101,31 +87,27 @@ fn a_window_and_a_mask_of_height_cells(rt: HostRuntime) -> Result<(), Fail> {
         END,
     ];
     let bytes = spelled(rt.alloc(), &words)?;
-    match read(bytes.as_slice()) {
-        Ok(job) => {
-            assert_eq!(rt; job.kind(), CellKind::Height);
-            assert_eq!(rt;
-                job.window(),
-                Some(Rectangle {
-                    left: 1,
-                    top: 0,
-                    size: Size {
-                        width: 1,
-                        height: 1,
-                    },
-                })
-            );
-            assert_eq!(rt; job.step(0), Some(Step::Call(Filter::Close)));
-            // A field of 31 is no fault of the strip.
-            assert_eq!(rt; job.step(1), Some(Step::Point(PointFields { u: 31, v: 0 })));
-            assert_eq!(rt; job.step_place(1), Some(7));
-            assert_eq!(rt;
-                Point::from(PointFields { u: 31, v: 0 }),
-                Point { u: 16, v: -15 }
-            );
-        }
-        Err(_) => assert!(rt; false),
-    }
+    let job = read(bytes.as_slice())?;
+    assert_eq!(rt; job.kind(), CellKind::Height);
+    assert_eq!(rt;
+        job.window(),
+        Some(Rectangle {
+            left: 1,
+            top: 0,
+            size: Size {
+                width: 1,
+                height: 1,
+            },
+        })
+    );
+    assert_eq!(rt; job.step(0), Some(Step::Call(Filter::Close)));
+    // A field of 31 is no fault of the strip.
+    assert_eq!(rt; job.step(1), Some(Step::Point(PointFields { u: 31, v: 0 })));
+    assert_eq!(rt; job.step_place(1), Some(7));
+    assert_eq!(rt;
+        Point::from(PointFields { u: 31, v: 0 }),
+        Point { u: 16, v: -15 }
+    );
     Ok(())
 }
 
@@ -343,23 +325,15 @@ fn a_raw_word_is_a_cell_of_its_kind(rt: HostRuntime) -> Result<(), Fail> {
 fn a_strip_has_at_most_65536_bytes(rt: HostRuntime) -> Result<(), Fail> {
     let mut bytes = spelled(rt.alloc(), &[NO_SHEET, NO_CELLS])?;
     for _ in 0..16_381 {
-        put(&mut bytes, ORIGIN)?;
+        bytes.extend_from_slice(&ORIGIN.to_be_bytes())?;
     }
-    put(&mut bytes, END)?;
+    bytes.extend_from_slice(&END.to_be_bytes())?;
     assert_eq!(rt; bytes.len(), 65_536);
-    match read(bytes.as_slice()) {
-        Ok(job) => assert_eq!(rt; job.steps(), 16_381),
-        Err(_) => assert!(rt; false),
-    }
+    assert_eq!(rt; read(bytes.as_slice())?.steps(), 16_381);
     bytes.push(0)?;
-    match read(bytes.as_slice()) {
-        Ok(_) => assert!(rt; false),
-        Err(fault) => {
-            assert_eq!(rt; fault, StripFault::TooLong);
-            assert_eq!(rt; fault.number(), 1);
-            assert_eq!(rt; fault.word(), 16_384);
-        }
-    }
+    assert_eq!(rt; read(bytes.as_slice()).err(), Some(StripFault::TooLong));
+    assert_eq!(rt; StripFault::TooLong.number(), 1);
+    assert_eq!(rt; StripFault::TooLong.word(), 16_384);
     Ok(())
 }
 
