@@ -137,10 +137,8 @@ where
     H::Cell: Listed,
     ensures { IfOk result (λ v. v.items ≡ map H.Cell.Listed.listed (filter_map (λ x. (H.Holder.sheet holder.now).cell x y) (range_with_len 0 (H.Holder.sheet holder.now).width))) }
 {
-    Ok(
-        (0..holder.size().width)
-            .filter_map(|x| holder.cell(x, y))
-            .map(|cell| cell.word())
-            .collect(heap)?,
-    )
+    (0..holder.size().width)
+        .filter_map(|x| holder.cell(x, y))
+        .map(|cell| cell.word())
+        .collect(heap)
 }

@@ -1,7 +1,6 @@
 // Strips in words, and their listings as text.
 use crate::fault::{JobFault, Layer, PointsFault};
-use crate::line::Line;
-use crate::run::run;
+use crate::run::run_to_text;
 use masks::fault::MaskFault;
 use morphology::refusal::Refusal;
 use std::alloc::{AllocError, Global};
@@ -23,28 +22,13 @@ const OPEN: u32 = 0x6000_0003;
 
 const END: u32 = 0x7000_0000;
 
-// The listing of the strip of these words, its lines parted by strokes.
+// The text of the listing of the strip of these words.
 fn listing(heap: Global, words: &[u32]) -> Result<String, AllocError> {
     let mut bytes = Vec::new(heap);
     for word in words {
-        for byte in word.to_be_bytes() {
-            bytes.push(byte)?;
-        }
+        bytes.extend_from_slice(&word.to_be_bytes())?;
     }
-    let lines = run(heap, bytes.as_slice())?;
-    text(heap, lines.as_slice())
-}
-
-fn text(heap: Global, lines: &[Line]) -> Result<String, AllocError> {
-    let mut text = String::new(heap);
-    for (i, line) in lines.iter().enumerate() {
-        if i > 0 {
-            text.push_str("|")?;
-        }
-        let one = line.to_string(heap)?;
-        text.push_str(one.as_str())?;
-    }
-    Ok(text)
+    run_to_text(heap, bytes.as_slice())
 }
 
 #[test]
@@ -52,7 +36,7 @@ fn the_worked_strip_has_four_lines(rt: HostRuntime) -> Result<(), Fail> {
     let text = listing(rt.alloc(), &[HEAD, CELLS, 7, 9, 4, ORIGIN, EAST, OPEN, END])?;
     assert_eq!(rt;
         text.as_str(),
-        "sheet gray 3 1|mask 2 chords 1|open 64|7 7 4"
+        "sheet gray 3 1\nmask 2 chords 1\nopen 64\n7 7 4\n"
     );
     Ok(())
 }
@@ -65,7 +49,7 @@ fn a_job_goes_on_after_a_refused_call(rt: HostRuntime) -> Result<(), Fail> {
     )?;
     assert_eq!(rt;
         text.as_str(),
-        "sheet gray 3 1|open refused 10|mask 2 chords 1|open 64|7 7 4"
+        "sheet gray 3 1\nopen refused 10\nmask 2 chords 1\nopen 64\n7 7 4\n"
     );
     Ok(())
 }
@@ -78,7 +62,7 @@ fn a_mask_is_refused_at_the_word_of_its_first_far_point(rt: HostRuntime) -> Resu
     )?;
     assert_eq!(rt;
         text.as_str(),
-        "sheet gray 3 1|mask refused 8 word 6|open refused 10|7 9 4"
+        "sheet gray 3 1\nmask refused 8 word 6\nopen refused 10\n7 9 4\n"
     );
     Ok(())
 }
@@ -93,7 +77,7 @@ fn a_refused_mask_leaves_the_one_before(rt: HostRuntime) -> Result<(), Fail> {
     )?;
     assert_eq!(rt;
         text.as_str(),
-        "sheet gray 3 1|mask 2 chords 1|open 64|mask refused 8 word 8|open 64|mask 1 chords 1|7 7 4"
+        "sheet gray 3 1\nmask 2 chords 1\nopen 64\nmask refused 8 word 8\nopen 64\nmask 1 chords 1\n7 7 4\n"
     );
     Ok(())
 }
@@ -101,7 +85,7 @@ fn a_refused_mask_leaves_the_one_before(rt: HostRuntime) -> Result<(), Fail> {
 #[test]
 fn the_first_row_of_heights_is_listed_last(rt: HostRuntime) -> Result<(), Fail> {
     let text = listing(rt.alloc(), &[0x1200_1002, 0x2000_0002, 1, 0xffff_fffe, END])?;
-    assert_eq!(rt; text.as_str(), "sheet height 1 2|-2|1");
+    assert_eq!(rt; text.as_str(), "sheet height 1 2\n-2\n1\n");
     Ok(())
 }
 
@@ -120,7 +104,7 @@ fn a_window_lies_over_south_up(rt: HostRuntime) -> Result<(), Fail> {
             END,
         ],
     )?;
-    assert_eq!(rt; text.as_str(), "sheet height 1 1|2");
+    assert_eq!(rt; text.as_str(), "sheet height 1 1\n2\n");
     let text = listing(
         rt.alloc(),
         &[
@@ -137,23 +121,26 @@ fn a_window_lies_over_south_up(rt: HostRuntime) -> Result<(), Fail> {
             END,
         ],
     )?;
-    assert_eq!(rt; text.as_str(), "sheet gray 2 1|mask 2 chords 1|open 62|4 4");
+    assert_eq!(rt;
+        text.as_str(),
+        "sheet gray 2 1\nmask 2 chords 1\nopen 62\n4 4\n"
+    );
     Ok(())
 }
 
 #[test]
 fn a_sheet_without_cells_has_its_width(rt: HostRuntime) -> Result<(), Fail> {
     let text = listing(rt.alloc(), &[0x1100_5000, 0x2000_0000, END])?;
-    assert_eq!(rt; text.as_str(), "sheet gray 5 0");
+    assert_eq!(rt; text.as_str(), "sheet gray 5 0\n");
     let text = listing(rt.alloc(), &[0x1100_0005, 0x2000_0000, OPEN, END])?;
-    assert_eq!(rt; text.as_str(), "sheet gray 0 0|open refused 9");
+    assert_eq!(rt; text.as_str(), "sheet gray 0 0\nopen refused 9\n");
     Ok(())
 }
 
 #[test]
 fn flags_and_returns_are_listed_by_their_words(rt: HostRuntime) -> Result<(), Fail> {
     let text = listing(rt.alloc(), &[0x1300_2001, 0x2000_0002, 255, 6, END])?;
-    assert_eq!(rt; text.as_str(), "sheet flags 2 1|255 6");
+    assert_eq!(rt; text.as_str(), "sheet flags 2 1\n255 6\n");
     let text = listing(
         rt.alloc(),
         &[
@@ -167,7 +154,7 @@ fn flags_and_returns_are_listed_by_their_words(rt: HostRuntime) -> Result<(), Fa
     )?;
     assert_eq!(rt;
         text.as_str(),
-        "sheet return 3 1|00000000 BF800000 7F800000"
+        "sheet return 3 1\n00000000 BF800000 7F800000\n"
     );
     Ok(())
 }
@@ -175,7 +162,7 @@ fn flags_and_returns_are_listed_by_their_words(rt: HostRuntime) -> Result<(), Fa
 #[test]
 fn a_refused_strip_has_one_line(rt: HostRuntime) -> Result<(), Fail> {
     let text = listing(rt.alloc(), &[HEAD, CELLS, 7, 9, 4, 0x8000_0000])?;
-    assert_eq!(rt; text.as_str(), "strip refused 3 word 5");
+    assert_eq!(rt; text.as_str(), "strip refused 3 word 5\n");
     Ok(())
 }
 
