@@ -4,9 +4,9 @@
 --     origin_read ms     the origin's place, or the first fault
 --     Reads ms r         r is an answer to the marks ms
 --     place_at d i       where a point of a drawing was drawn
-use Rattle.std.specs.Prelude.{◌≡◌, ℕ, ◌-◌, ◌^◌, cond, ◌⊎◌, List, [], ◌∷◌, map, length, ℤ, pos, ◌-ℤ◌, neg_ℤ, Ok, Err, vec_items, filter, Option, Result, nat_lt, slice_index_or}
+use Rattle.std.specs.Prelude.{◌≡◌, ℕ, ◌-◌, ◌^◌, not, ◌⊎◌, List, [], ◌∷◌, map, ℤ, pos, ◌-ℤ◌, neg_ℤ, Some, None, Ok, Err, vec_items, filter, Option, Result}
 use Rattle.std.specs.Int.{int_min, int_max}
-use Rattle.std.specs.List.{slice_get, prefix_len}
+use Rattle.std.specs.List.{slice_get, find}
 use Rattle.std.specs.Option.{option_map}
 use Rattle.masks.specs.declared.point.Point.{Point}
 use Rattle.drawings.specs.Signs.{is_sign, is_point, is_origin}
@@ -16,13 +16,9 @@ use Rattle.drawings.specs.declared.drawing.Drawing.{Drawing}
 use Rattle.drawings.specs.declared.drawing.DrawingFault.{DrawingFault}
 use Rattle.drawings.specs.declared.drawing.DrawingFault.TheVariants.{OtherCharacter, NoOrigin, SecondOrigin, Memory}
 
--- no mark, for a list that has none
-abbrev pub nowhere : Mark
-nowhere = record { place = record { line = 0; column = 0 }; sign = 0 }
-
--- how many marks at the front are signs, and the first that is none
-abbrev pub sign_front : List Mark → ℕ
-sign_front ms = prefix_len (λ m. is_sign m.sign) ms
+-- the first mark that is none of the four signs
+abbrev pub first_other : List Mark → Option Mark
+first_other ms = find (λ m. not (is_sign m.sign)) ms
 
 -- the origin is marked once
 abbrev pub only : List Mark → Result Place DrawingFault
@@ -48,8 +44,12 @@ abbrev pub points_from : List Mark → Place → List Point
 points_from ms o = map (λ m. point_of o m.place) (point_marks ms)
 
 -- a character that is no sign is told first; then an origin that is missing or marked twice
+abbrev pub told_first : Option Mark → Result Place DrawingFault → Result Place DrawingFault
+told_first None r = r
+told_first (Some m) r = Err (OtherCharacter m.place)
+
 abbrev pub origin_read : List Mark → Result Place DrawingFault
-origin_read ms = cond (nat_lt (sign_front ms) (length ms)) (Err (OtherCharacter (slice_index_or ms (sign_front ms) nowhere).place)) (origin_of ms)
+origin_read ms = told_first (first_other ms) (origin_of ms)
 
 -- what a reader may answer of the marks: the points that they draw, the fault that they have, or want of memory
 abbrev pub Reads : List Mark → Result Drawing DrawingFault → Type 0

@@ -2,7 +2,7 @@
 ghost use Rattle.std.specs.Prelude.{◌≡◌, true, ◌++◌, map, is_ok, IfOk, string_bytes};
 ghost use Rattle.drawings.specs.declared.drawing.DrawingFault.TheVariants.{Memory};
 ghost use Rattle.drawings.specs.Signs.{blank, is_sign, is_point, is_origin, line_marks, marks};
-ghost use Rattle.drawings.specs.Readings.{sign_front, origin_of, point_marks, point_of, offset, origin_read, place_at, Reads};
+ghost use Rattle.drawings.specs.Readings.{origin_of, point_marks, point_of, offset, origin_read, place_at, Reads};
 
 use masks::point::Point;
 use std::alloc::{AllocError, Global};
@@ -107,9 +107,8 @@ impl Drawing {
 fn origin_read(marks: &[Mark]) -> Result<Place, DrawingFault>
     ensures { result ≡ origin_read marks.now }
 {
-    let good = signs(marks);
-    if good < marks.len() {
-        return Err(DrawingFault::OtherCharacter(marks[good].place));
+    if let Some(other) = marks.iter().find(|m| !is_sign(m.sign)) {
+        return Err(DrawingFault::OtherCharacter(other.place));
     }
     origin_of(marks)
 }
@@ -206,25 +205,21 @@ fn all_marks(heap: Global, lines: &[String]) -> Result<Vec<Mark>, AllocError>
     Ok(all)
 }
 
-// How many marks at the front are signs.
-fn signs(marks: &[Mark]) -> usize
-    ensures { result ≡ sign_front marks.now }
-{
-    marks.iter().take_while(|m| is_sign(m.sign)).count()
-}
-
+// Whether a character is one of the four signs.
 fn is_sign(b: u8) -> bool
     ensures { result ≡ is_sign b }
 {
     is_point(b) || is_origin(b) || b == b'.'
 }
 
+// Whether a character stands for a point.
 fn is_point(b: u8) -> bool
     ensures { result ≡ is_point b }
 {
     b == b'#' || b == b'@'
 }
 
+// Whether a character marks the origin.
 fn is_origin(b: u8) -> bool
     ensures { result ≡ is_origin b }
 {

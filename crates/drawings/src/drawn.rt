@@ -9,7 +9,7 @@ use masks::mask::Mask;
 use std::fmt;
 
 // Why a drawing draws no mask.
-#[derive(Clone, Copy)]
+#[derive(Clone, Copy, PartialEq, Eq, Debug)]
 pub enum DrawnFault {
     // The drawing cannot be read.
     Unread(DrawingFault),
