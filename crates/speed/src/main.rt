@@ -20,7 +20,8 @@ const TABLE: usize = 31 * 13 * 2078;
 const RUNS: usize = 7;
 
 fn main(rt: HostRuntime) -> anyhow::Result<()> {
-    let mut points = Vec::new(rt.alloc());
+    let alloc = rt.alloc();
+    let mut points = Vec::new(alloc);
     for v in -15..16 {
         for u in -15..16 {
             if in_disk(u, v) {
@@ -28,13 +29,9 @@ fn main(rt: HostRuntime) -> anyhow::Result<()> {
             }
         }
     }
-    let Ok(mask) = Mask::from_points(points.as_slice()) else {
-        return Err(anyhow!("the disk is no mask"));
-    };
-    let mut cells = Vec::new(rt.alloc());
-    cells.resize(SIDE * SIDE, Gray(0))?;
-    let mut table = Vec::new(rt.alloc());
-    table.resize(TABLE, Gray(0))?;
+    let mask = Mask::from_points(points.as_slice()).map_err(|_| anyhow!("the disk is no mask"))?;
+    let mut cells = vec![in alloc; Gray(0); SIDE * SIDE]?;
+    let mut table = vec![in alloc; Gray(0); TABLE]?;
     let mut best = Duration::MAX;
     for _ in 0..RUNS {
         make_up(cells.as_mut_slice());
@@ -45,9 +42,7 @@ fn main(rt: HostRuntime) -> anyhow::Result<()> {
             table.as_mut_slice(),
         );
         let time = start.elapsed(&rt)?;
-        if answer.is_err() {
-            return Err(anyhow!("the erosion is refused"));
-        }
+        answer.map_err(|_| anyhow!("the erosion is refused"))?;
         best = best.min(time);
     }
     println!(rt; "sum {}", checksum(cells.as_slice()))?;

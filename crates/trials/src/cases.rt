@@ -24,9 +24,9 @@ pub fn read_case(alloc: Global, line: &str) -> anyhow::Result<Vec<u8>> {
                 let (Some(digits), Some(times)) = (words.next(), words.next()) else {
                     return Err(anyhow!("digits and a number have to follow the word repeat"));
                 };
-                let Ok(times) = times.parse::<usize>() else {
-                    return Err(anyhow!("{times} does not say how many times"));
-                };
+                let times = times
+                    .parse::<usize>()
+                    .map_err(|_| anyhow!("{times} does not say how many times"))?;
                 add(alloc, digits, times, &mut bytes)?
             }
             digits => add(alloc, digits, 1, &mut bytes)?,

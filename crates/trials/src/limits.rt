@@ -9,6 +9,7 @@ use masks::fault::MaskFault;
 use masks::mask::Mask;
 use masks::point::Point;
 use morphology::refusal::Refusal;
+use sheets::holder::Size;
 use sheets::rows::Rows;
 use std::io;
 use strips::job::read;
@@ -46,18 +47,23 @@ fn tell_tables(rt: &HostRuntime) -> anyhow::Result<()> {
     Ok(())
 }
 
+// The mask, which these points are to make.
 fn made(mask: Result<Mask, MaskFault>) -> anyhow::Result<Mask> {
     mask.map_err(|_| anyhow!("the points are no mask"))
 }
 
+// The picks of an erosion, or its refusal with what it says.
 fn tell_answer(rt: &HostRuntime, answer: Result<u64, Refusal>) -> io::Result<()> {
     match answer {
         Ok(picks) => println!(rt; "picks {picks}"),
-        Err(Refusal::ShortTable { needed, lent }) => {
-            println!(rt; "refused 11 needed {needed} lent {lent}")
+        Err(refusal @ Refusal::ShortTable { needed, lent }) => {
+            println!(rt; "refused {} needed {needed} lent {lent}", refusal.number())
         }
-        Err(Refusal::WrongSize(size)) => {
-            println!(rt; "refused 9 width {} height {}", size.width, size.height)
+        Err(refusal @ Refusal::WrongSize(Size { width, height })) => {
+            println!(rt;
+                "refused {} width {width} height {height}",
+                refusal.number()
+            )
         }
         Err(refusal) => println!(rt; "refused {}", refusal.number()),
     }
@@ -72,7 +78,9 @@ fn tell_points(rt: &HostRuntime, u: i32) -> anyhow::Result<()> {
             mask.count(),
             ChordList::of(&mask).as_slice().len()
         )?,
-        Err(MaskFault::Beyond(place)) => println!(rt; "refused 8 place {place}")?,
+        Err(fault @ MaskFault::Beyond(place)) => {
+            println!(rt; "refused {} place {place}", fault.number())?
+        }
         Err(fault) => println!(rt; "refused {}", fault.number())?,
     }
     Ok(())
@@ -109,6 +117,7 @@ fn tell_words(rt: &HostRuntime) -> anyhow::Result<()> {
     Ok(())
 }
 
+// Whether a word is a cell.
 fn tell_cell(rt: &HostRuntime, is_cell: bool) -> io::Result<()> {
     if is_cell {
         println!(rt; "a cell")
