@@ -28,13 +28,15 @@ const LIST_RULE: &str = "a list has a whole number of places, from 0 to 65536";
 
 // The words for what is wrong with a job.
 pub const WORDS: Words = Words {
-    parts: "sheet, mask, fore, back and list",
-    cells: "whole numbers of millimetres, of 32 bits",
+    program: "banks",
+    parts: Some("sheet, mask, fore, back and list"),
+    cells: Some("whole numbers of millimetres, of 32 bits"),
     no_text: "the job is no text",
     unread: "the job is no text",
     unwritten: "the listing cannot be written",
 };
 
+// A job that was read. The sheet's cells lie row by row.
 #[derive(Drop)]
 pub struct Job {
     pub size: Size,

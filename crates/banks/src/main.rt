@@ -11,15 +11,11 @@ use job::{Job, WORDS};
 use listing::Listing;
 use std::process::ExitCode;
 use texts::ending::ended;
-use texts::fault::{JobFault, ToldJobFault};
+use texts::fault::JobFault;
 use texts::input::input_lines;
 
 fn main(rt: HostRuntime) -> ExitCode {
-    let outcome = run(&rt).map_err(|fault| ToldJobFault {
-        fault,
-        words: WORDS,
-    });
-    ended(&rt, "banks", outcome)
+    ended(&rt, WORDS, run(&rt))
 }
 
 // Reads a job from standard input, runs it and lists what it did.

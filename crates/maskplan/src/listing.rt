@@ -54,6 +54,7 @@ impl Listing<'_> {
         Ok(())
     }
 
+    // The chords of the mask, from which the sweep takes it.
     fn print_chords(&self) -> io::Result<()> {
         let chords = ChordList::of(self.mask);
         let count = chords.as_slice().len();
@@ -64,6 +65,7 @@ impl Listing<'_> {
         Ok(())
     }
 
+    // The lengths for which the table has cells.
     fn print_lengths(&self) -> io::Result<()> {
         print!(self.rt; "lengths")?;
         for length in LengthList::of(self.mask).as_slice() {
@@ -72,6 +74,7 @@ impl Listing<'_> {
         println!(self.rt)
     }
 
+    // What filters under the mask cost on the sheet.
     fn print_costs(&self) -> io::Result<()> {
         let costs = plan::priced(self.mask, self.size);
         println!(self.rt; "rows {}", costs.rows)?;

@@ -14,32 +14,31 @@ use sheets::holder::Size;
 use std::env;
 use std::process::ExitCode;
 use texts::ending::ended;
-use texts::fault::{JobFault, ToldJobFault, Words};
+use texts::fault::{JobFault, Words};
 use texts::input::{InputFault, input_lines};
 use texts::size::sized;
 
 // What the program's arguments are.
 const USAGE: &str = "usage: maskplan WIDTH HEIGHT, with a drawing on standard input";
 
+// What each of them is.
 const WIDTH_RULE: &str = "the width is not a whole number from 1 to 2048";
 
+// The rule of the second.
 const HEIGHT_RULE: &str = "the height is not a whole number from 1 to 2048";
 
 // The words for what is wrong. A drawing alone has no parts and no cells.
 const WORDS: Words = Words {
-    parts: "",
-    cells: "",
+    program: "maskplan",
+    parts: None,
+    cells: None,
     no_text: "the drawing is no text",
     unread: "the drawing is no text",
     unwritten: "the plan cannot be written",
 };
 
 fn main(rt: HostRuntime) -> ExitCode {
-    let outcome = run(&rt).map_err(|fault| ToldJobFault {
-        fault,
-        words: WORDS,
-    });
-    ended(&rt, "maskplan", outcome)
+    ended(&rt, WORDS, run(&rt))
 }
 
 // Reads the size from the arguments and the drawing from standard input, and prints each step.

@@ -1,22 +1,29 @@
 // Runs the strip of a job from standard input, and prints its listing.
 #![tactic(auto)]
 
-// What can keep a job from being run, and the line that says so.
-mod fault;
-
-use fault::RunFault;
 use jobs::run::run_to_text;
 use std::io::Read;
 use std::process::ExitCode;
 use texts::ending::ended;
+use texts::fault::{JobFault, Words};
 use texts::input::InputFault;
 
+// The words for what keeps a job from being run. A strip has no parts in lines, and is told of by its listing.
+const WORDS: Words = Words {
+    program: "platrun",
+    parts: None,
+    cells: None,
+    no_text: "the strip cannot be read",
+    unread: "the strip cannot be read",
+    unwritten: "the listing cannot be written",
+};
+
 fn main(rt: HostRuntime) -> ExitCode {
-    ended(&rt, "platrun", run(&rt))
+    ended(&rt, WORDS, run(&rt))
 }
 
 // Reads a strip and runs its job; then prints the listing. A strip that is refused is listed, too.
-fn run(rt: &HostRuntime) -> Result<(), RunFault> {
+fn run(rt: &HostRuntime) -> Result<(), JobFault> {
     let bytes = input(rt)?;
     let listing = run_to_text(rt.alloc(), bytes.as_slice())?;
     print!(rt; "{listing}")?;

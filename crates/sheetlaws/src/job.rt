@@ -32,8 +32,9 @@ const CALL_RULE: &str = "a call is open or close, and perhaps the cells of its t
 
 // The words for what is wrong with a job.
 pub const WORDS: Words = Words {
-    parts: "sheet, mask, threshold and calls",
-    cells: "whole numbers from 0 to 255",
+    program: "sheetlaws",
+    parts: Some("sheet, mask, threshold and calls"),
+    cells: Some("whole numbers from 0 to 255"),
     no_text: "the job is no text",
     unread: "the job cannot be read",
     unwritten: "the listing cannot be written",
@@ -142,7 +143,7 @@ fn read_call(line: Line) -> Result<Option<Pass>, JobFault> {
         })),
         (Some(name), Some(cells), None) => Ok(Some(Pass {
             sort: sort_of(name).ok_or(fault)?,
-            cells: Some(cells.parse::<usize>().ok().ok_or(fault)?),
+            cells: Some(cells.parse::<usize>().map_err(|_| fault)?),
         })),
         _ => Err(fault),
     }

@@ -24,15 +24,11 @@ use listing::Listing;
 use report::Report;
 use std::process::ExitCode;
 use texts::ending::ended;
-use texts::fault::{JobFault, ToldJobFault};
+use texts::fault::JobFault;
 use texts::input::input_lines;
 
 fn main(rt: HostRuntime) -> ExitCode {
-    let outcome = run(&rt).map_err(|fault| ToldJobFault {
-        fault,
-        words: WORDS,
-    });
-    ended(&rt, "sheetlaws", outcome)
+    ended(&rt, WORDS, run(&rt))
 }
 
 // Reads a job from standard input and runs it; then lists what it did.

@@ -23,6 +23,7 @@ pub struct Step {
     pub sheet: Shown,
 }
 
+// What the job's calls did, which sheets they showed, and which there can be.
 #[derive(Drop)]
 pub struct Report {
     // The whole list of calls, made at once.

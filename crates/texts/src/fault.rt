@@ -6,7 +6,7 @@ ghost use Rattle.texts.specs.declared.fault.JobFault.TheVariants.{Missing as Mis
 
 use crate::input::InputFault;
 use crate::part::Missing;
-use crate::sheet::{SheetFault, ToldSheetFault};
+use crate::sheet::SheetFault;
 use crate::size::WrongSize;
 use drawings::drawing::DrawingFault;
 use drawings::drawn::DrawnFault;
@@ -14,7 +14,7 @@ use std::alloc::AllocError;
 use std::{fmt, io};
 
 // What is wrong with a job, or kept from it. Lines are told by their number in the job, from 1.
-#[derive(Clone, Copy)]
+#[derive(Clone, Copy, PartialEq, Eq, Debug)]
 pub enum JobFault {
     // The program's arguments are not what it takes, as these words say.
     Arguments(&'static str),
@@ -37,10 +37,12 @@ pub enum JobFault {
 // What differs between programs where they tell a fault.
 #[derive(Clone, Copy)]
 pub struct Words {
-    // The parts that a job has, in their order.
-    pub parts: &'static str,
-    // What the cells of its sheet are.
-    pub cells: &'static str,
+    // The program's name.
+    pub program: &'static str,
+    // The parts that a job has, in their order, where it has parts.
+    pub parts: Option<&'static str>,
+    // What the cells of a job's sheet are, where a sheet is part of it.
+    pub cells: Option<&'static str>,
     // That the input is no text.
     pub no_text: &'static str,
     // That the input cannot be read.
@@ -127,16 +129,16 @@ impl fmt::Display for ToldJobFault {
         let words = self.words;
         match self.fault {
             JobFault::Arguments(rule) => f.write_str(rule),
-            JobFault::Missing(fault) => {
-                write!(f, "{fault}; a job has {}, in this order", words.parts)
-            }
-            JobFault::Sheet(fault) => {
-                let told = ToldSheetFault {
-                    fault,
-                    cells: words.cells,
-                };
-                write!(f, "{told}")
-            }
+            JobFault::Missing(fault) => match words.parts {
+                Some(parts) => write!(f, "{fault}; a job has {parts}, in this order"),
+                None => write!(f, "{fault}"),
+            },
+            JobFault::Sheet(fault) => match (fault, words.cells) {
+                (SheetFault::NoCell(line), Some(cells)) => {
+                    write!(f, "line {line}: a row of the sheet has {cells}")
+                }
+                _ => write!(f, "{fault}"),
+            },
             JobFault::Drawn(fault) => write!(f, "{fault}"),
             JobFault::NotAs { line, rule } => write!(f, "line {line}: {rule}"),
             JobFault::Input(InputFault::NoText) => f.write_str(words.no_text),

@@ -36,6 +36,7 @@ pub fn input_lines<R: Input + AllocGlobal>(rt: &R) -> Result<Vec<String>, InputF
     Ok(lines_of(rt)?)
 }
 
+// The lines, as the reader gives them.
 fn lines_of<R: Input + AllocGlobal>(rt: &R) -> io::Result<Vec<String>>
     ensures { IfOk result (λ v. All LacksFeed v.items) }
 {

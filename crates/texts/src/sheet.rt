@@ -21,19 +21,10 @@ pub enum SheetFault {
     Memory,
 }
 
-// Why a sheet cannot be taken in, with the words for its cells.
-#[derive(Clone, Copy)]
-pub struct ToldSheetFault {
-    pub fault: SheetFault,
-    pub cells: &'static str,
-}
-
-impl fmt::Display for ToldSheetFault {
+impl fmt::Display for SheetFault {
     fn fmt<W: fmt::Write>(&self, f: &mut fmt::Formatter<W>) -> fmt::Result {
-        match self.fault {
-            SheetFault::NoCell(line) => {
-                write!(f, "line {line}: a row of the sheet has {}", self.cells)
-            }
+        match self {
+            SheetFault::NoCell(line) => write!(f, "line {line}: a word is no cell"),
             SheetFault::UnlikeRow(line) => write!(
                 f,
                 "line {line}: this row has not as many cells as the first"
@@ -109,8 +100,7 @@ where
     for word in line.text.split_whitespace() {
         let cell = word
             .parse::<T>()
-            .ok()
-            .ok_or(SheetFault::NoCell(line.number))?;
+            .map_err(|_| SheetFault::NoCell(line.number))?;
         cells.push(cell)?;
     }
     Ok(cells.len().saturating_sub(before))
