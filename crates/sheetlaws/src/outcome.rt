@@ -7,6 +7,7 @@ ghost use Rattle.sheetlaws.specs.Jobs.{room, pass_call, job_calls, gray_answers}
 use crate::job::{Job, Pass};
 use cells::flags::Flags;
 use cells::gray::Gray;
+use cells::kind::Kind;
 use cells::threshold::Threshold;
 use morphology::call::{Answer, Call};
 use sheets::rows::Rows;
@@ -20,6 +21,21 @@ pub struct Backing<C> {
     pub cells: Vec<C>,
     pub answers: Vec<Answer>,
     table: Vec<C>,
+}
+
+impl<C: Kind> Backing<C> {
+    // The backing for so many calls, with a table of so many cells.
+    fn of(heap: Global, cells: Vec<C>, calls: usize, room: usize) -> Result<Backing<C>, AllocError>
+        ensures cells { IfOk result (λ b. b.cells ≡ cells) }
+        ensures places { IfOk result (λ b. length b.answers.items ≡ calls) }
+        ensures table { IfOk result (λ b. length b.table.items ≡ room) }
+    {
+        Ok(Backing {
+            cells,
+            answers: vec![in heap; Answer::Laid; calls]?,
+            table: vec![in heap; C::least(); room]?,
+        })
+    }
 }
 
 // What the calls left and answered, on the sheet and on its threshold. The first answer is that to the lay.
@@ -36,16 +52,9 @@ impl Outcome {
     {
         let room = job.table_cells();
         let calls = calls(heap, job, passes)?;
-        let mut gray = Backing {
-            cells: job.cells.clone()?,
-            answers: vec![in heap; Answer::Laid; calls.len()]?,
-            table: vec![in heap; Gray(0); room]?,
-        };
-        let mut flag = Backing {
-            cells: thresholded(heap, job.cells.as_slice(), job.threshold)?,
-            answers: vec![in heap; Answer::Laid; calls.len()]?,
-            table: vec![in heap; Flags(0); room]?,
-        };
+        let flags = thresholded(heap, job.cells.as_slice(), job.threshold)?;
+        let mut gray = Backing::of(heap, job.cells.clone()?, calls.len(), room)?;
+        let mut flag = Backing::of(heap, flags, calls.len(), room)?;
         make(job.size.width, calls.as_slice(), &mut gray, &mut flag);
         Ok(Outcome { gray, flag })
     }

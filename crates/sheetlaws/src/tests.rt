@@ -138,10 +138,7 @@ fn a_bend_has_four_sheets(rt: HostRuntime) -> Result<(), Fail> {
         heap,
         "sheet\n5 5 5 5 2\n5 5 2 5 5\n2 2 2 5 5\n2 2 2 2 8\nmask\n@#\n##\nthreshold 5\ncalls\nopen\nclose\n",
     )?;
-    let Ok(job) = Job::read(heap, lines.as_slice()) else {
-        assert!(rt; false);
-        return Ok(());
-    };
+    let job = Job::read(heap, lines.as_slice())?;
     let report = Report::of(heap, &job)?;
     assert_eq!(rt; report.accepted(), 2);
     assert_eq!(rt; report.shown.different(), 3);
@@ -173,10 +170,7 @@ fn a_bend_has_four_sheets(rt: HostRuntime) -> Result<(), Fail> {
 fn without_calls_the_loaded_sheet_stands(rt: HostRuntime) -> Result<(), Fail> {
     let heap = rt.alloc();
     let lines = lines_of(heap, "sheet\n7\nmask\n@\nthreshold 1\ncalls\n")?;
-    let Ok(job) = Job::read(heap, lines.as_slice()) else {
-        assert!(rt; false);
-        return Ok(());
-    };
+    let job = Job::read(heap, lines.as_slice())?;
     let report = Report::of(heap, &job)?;
     assert_eq!(rt; report.steps.len(), 0);
     assert!(rt; report.standing == Standing::Loaded);
