@@ -19,6 +19,7 @@ pub struct Place {
 #[derive(Clone, Copy)]
 pub struct Mark {
     pub place: Place,
+    // A byte: with an enum of the four signs, each definition of marks would be a Result, for a character that is none.
     pub sign: u8,
 }
 
