@@ -34,8 +34,7 @@ Passes due s t (Err e) = due (left s) ≡ Err e
 abbrev pub job_of : JobStrip → Job
 job_of s = record {
   kind = s.shape.kind;
-  width = s.shape.width;
-  height = s.shape.height;
+  size = s.shape.size;
   raws = numbers s.raws.now;
   window = s.window;
   steps = map step_of (numbers s.steps.now);
