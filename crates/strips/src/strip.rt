@@ -150,7 +150,7 @@ impl<'a> Strip<'a> {
     }
 }
 
-// Whether the word has the kind of a corner.
+// Whether the word has the kind of a corner. A name for its number, in item_by too, would be one among six without.
 fn is_corner(word: u32) -> bool
     ensures { result ≡ (kind word == 3) }
 {
