@@ -53,6 +53,6 @@ topmost_same f g k w o xs raws e = topmost_shown f k w o xs ∙ ap (topmost k w 
 
 -- the listing of the pile is that of the job
 pub lists_pile : {K C : Type 0} (k : Lattice C) (f : K → C) (reads : ℕ → Option K) (g : K → ℕ) (xs : List Act) (j : Job) (s : Sheet K) (cs : List K) (ls : List Line) →
-    map f cs ≡ map (cells_by k f reads) j.raws → s ≡ topmost j.kind j.size.width j.window cs → Lists k f g j.kind xs s ls → ListsJob k f reads g xs j ls
+    map f cs ≡ map (cells_by k f reads) j.raws → s ≡ topmost j.kind j.width j.window cs → Lists k f g j.kind xs s ls → ListsJob k f reads g xs j ls
 lists_pile {C = C} k f reads g xs j s cs ls same whole here =
-    λ named names. here named names ∙ ap (λ (t : Sheet C). performed k named j.kind xs t) (ap (shown f) whole ∙ topmost_same f (cells_by k f reads) j.kind j.size.width j.window cs j.raws same)
+    λ named names. here named names ∙ ap (λ (t : Sheet C). performed k named j.kind xs t) (ap (shown f) whole ∙ topmost_same f (cells_by k f reads) j.kind j.width j.window cs j.raws same)

@@ -29,4 +29,4 @@ abbrev pub topmost : {C : Type 0} → CellKind → ℕ → Option Rectangle → 
 topmost k w f cs = framed f (turned k (whole_rows w cs))
 
 abbrev pub pile : Job → Sheet ℕ
-pile j = topmost j.kind j.size.width j.window j.raws
+pile j = topmost j.kind j.width j.window j.raws

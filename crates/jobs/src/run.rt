@@ -73,7 +73,7 @@ impl Planned<'_> {
         ensures { IfOk result (λ v. ListsJob K.Kind.lattice K.Kind.means K.WordForm.reads K.Listed.listed self.now.acts.now (job_of self.now.job.now) v.items) }
     {
         let mut cells = cells_of::<K>(self.heap, self.job)?;
-        let rows = Rows::new(self.job.size().width, cells.as_mut_slice());
+        let rows = Rows::new(self.job.width() as usize, cells.as_mut_slice());
         self.list_turned(rows)
     }
 

@@ -38,10 +38,10 @@ part_again {A} f i x ws y fits made =
 
 -- ---- the head and the count
 
-pub shape_again : (s : Shape) (ws : List ℕ) → Fits (Head (Ok s.kind) s.size.width s.size.height) → shape_due (from 0 (item_word (Head (Ok s.kind) s.size.width s.size.height) ∷ ws)) ≡ Ok (s, from 1 ws)
+pub shape_again : (s : Shape) (ws : List ℕ) → Fits (Head (Ok s.kind) s.width s.height) → shape_due (from 0 (item_word (Head (Ok s.kind) s.width s.height) ∷ ws)) ≡ Ok (s, from 1 ws)
 unfolding shape_due
 shape_again s ws fits =
-    part_again (shape_of 0) 0 (Head (Ok s.kind) s.size.width s.size.height) ws s fits refl
+    part_again (shape_of 0) 0 (Head (Ok s.kind) s.width s.height) ws s fits refl
 
 pub count_again : (n i : ℕ) (ws : List ℕ) → n < 2 ^ 28 → count_due n (from i (item_word (Cells n) ∷ ws)) ≡ Ok (n, from (i + 1) ws)
 unfolding count_due
@@ -147,8 +147,8 @@ count_below w h hw hh =
 pub job_again : (j : Job) → Sound j → job_from 0 (job_words j) ≡ Ok j
 unfolding job_from job_words
 job_again j t =
-    let n = j.size.width * j.size.height in
-    let s : Shape = record { kind = j.kind; size = j.size } in
+    let n = j.width * j.height in
+    let s : Shape = record { kind = j.kind; width = j.width; height = j.height } in
     let ws4 = step_words j.steps ++ item_word End ∷ [] in
     let ws3 = window_words j.window ++ ws4 in
     let ws2 = j.raws ++ ws3 in
@@ -161,11 +161,11 @@ job_again j t =
     let fourth : Shape → ℕ × Left → Option Rectangle × Left → Result Job StripFault = λ s c f. steps_due f.1 >>= fifth s c f in
     let third : Shape → ℕ × Left → Left → Result Job StripFault = λ s c r. window_due r >>= fourth s c in
     let second : Shape → ℕ × Left → Result Job StripFault = λ s c. raws_due s.kind c.0 c.1 >>= third s c in
-    let first : Shape × Left → Result Job StripFault = λ s. count_due (s.0.size.width * s.0.size.height) s.1 >>= second s.0 in
-    let few : n < 2 ^ 28 = count_below j.size.width j.size.height t.head.1 t.head.2 in
+    let first : Shape × Left → Result Job StripFault = λ s. count_due (s.0.width * s.0.height) s.1 >>= second s.0 in
+    let few : n < 2 ^ 28 = count_below j.width j.height t.head.1 t.head.2 in
     let raws : raws_due j.kind n (from 2 ws2) ≡ Ok (from p3 ws3) = ap (λ (k : ℕ). raws_due j.kind k (from 2 ws2)) (sym t.count) ∙ raws_again j.kind j.raws ws3 2 p3 t.raws refl in
     let cells : take n ws2 ≡ j.raws = take_at j.raws ws3 n t.count in
-    let done : List ℕ → List Step → Job = λ rs ss. record { kind = j.kind; size = j.size; raws = rs; window = j.window; steps = ss } in
+    let done : List ℕ → List Step → Job = λ rs ss. record { kind = j.kind; width = j.width; height = j.height; raws = rs; window = j.window; steps = ss } in
     ap (λ (r : Result (Shape × Left) StripFault). r >>= first) (shape_again s ws1 t.head)
     ∙ ap (λ (r : Result (ℕ × Left) StripFault). r >>= second s) (count_again n 1 ws2 few)
     ∙ ap (λ (r : Result Left StripFault). r >>= third s (n, from 2 ws2)) raws

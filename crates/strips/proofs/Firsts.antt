@@ -125,19 +125,19 @@ begun i ws front rest more j sound split len e = record {
 
 -- a job of a head, raw words, a window and steps
 abbrev assembled : Shape → List ℕ → Option Rectangle → List Step → Job
-assembled s rs f ss = record { kind = s.kind; size = s.size; raws = rs; window = f; steps = ss }
+assembled s rs f ss = record { kind = s.kind; width = s.width; height = s.height; raws = rs; window = f; steps = ss }
 
 abbrev pub head_word : Shape → ℕ
-head_word s = item_word (Head (Ok s.kind) s.size.width s.size.height)
+head_word s = item_word (Head (Ok s.kind) s.width s.height)
 
 abbrev pub count_word : Shape → ℕ
-count_word s = item_word (Cells (s.size.width * s.size.height))
+count_word s = item_word (Cells (s.width * s.height))
 
 abbrev pub end_words : List ℕ
 end_words = item_word End ∷ []
 
 smallest : Job
-smallest = record { kind = Gray; size = record { width = 0; height = 0 }; raws = []; window = None; steps = [] }
+smallest = record { kind = Gray; width = 0; height = 0; raws = []; window = None; steps = [] }
 
 at_head : (ws : List ℕ) → Begins 0 ws
 unfolding smallest
@@ -146,11 +146,11 @@ at_head ws = begun 0 ws [] ws (job_words smallest) smallest (record { head = ((l
 at_count : (ws : List ℕ) (s : Shape) (m : Left) → TheHead ws s m → Begins 1 ws
 unfolding job_words
 at_count ws s m t =
-    let zs = zeros (s.size.width * s.size.height) in
+    let zs = zeros (s.width * s.height) in
     begun 1 ws (head_word s ∷ []) m.words (count_word s ∷ (zs ++ end_words)) (assembled s zs None []) (record {
       head = t.fits;
-      count = length_zeros (s.size.width * s.size.height);
-      raws = zeros_raw s.kind (s.size.width * s.size.height);
+      count = length_zeros (s.width * s.height);
+      raws = zeros_raw s.kind (s.width * s.height);
       window = tt;
       steps = tt;
     }) t.front refl refl
@@ -206,16 +206,16 @@ raws_stop k (suc n) i (w ∷ ws) f fit e =
           })
     ]
 
-at_raws : (ws : List ℕ) (s : Shape) (left1 left2 : Left) (f : StripFault) → TheHead ws s left1 → left1.words ≡ count_word s ∷ left2.words → left2.place ≡ 2 → SomeRaws s.kind (s.size.width * s.size.height) left2.place left2.words f → Begins (told_word f) ws
+at_raws : (ws : List ℕ) (s : Shape) (left1 left2 : Left) (f : StripFault) → TheHead ws s left1 → left1.words ≡ count_word s ∷ left2.words → left2.place ≡ 2 → SomeRaws s.kind (s.width * s.height) left2.place left2.words f → Begins (told_word f) ws
 unfolding job_words
 at_raws ws s left1 left2 f t count two r =
-    let zs = zeros (s.size.width * s.size.height - length r.front) in
+    let zs = zeros (s.width * s.height - length r.front) in
     let rs = r.front ++ zs in
     let front = head_word s ∷ count_word s ∷ r.front in
     begun (told_word f) ws front r.rest (zs ++ end_words) (assembled s rs None []) (record {
       head = t.fits;
-      count = omega (arith, length-append r.front zs, length_zeros (s.size.width * s.size.height - length r.front), r.few);
-      raws = all_both (IsRaw s.kind) r.front zs r.raws (zeros_raw s.kind (s.size.width * s.size.height - length r.front));
+      count = omega (arith, length-append r.front zs, length_zeros (s.width * s.height - length r.front), r.few);
+      raws = all_both (IsRaw s.kind) r.front zs r.raws (zeros_raw s.kind (s.width * s.height - length r.front));
       window = tt;
       steps = tt;
     })
@@ -226,8 +226,8 @@ at_raws ws s left1 left2 f t count two r =
 -- what was passed up to the window
 pub record Passed (ws : List ℕ) (s : Shape) (rs : List ℕ) (m : Left) : Type 0 where
   pub front : ws ≡ (head_word s ∷ count_word s ∷ rs) ++ m.words
-  pub fits : Fits (Head (Ok s.kind) s.size.width s.size.height)
-  pub count : length rs ≡ s.size.width * s.size.height
+  pub fits : Fits (Head (Ok s.kind) s.width s.height)
+  pub count : length rs ≡ s.width * s.height
   pub raws : AllByRecursion (IsRaw s.kind) rs
   pub place : m.place ≡ 2 + length rs
 
@@ -348,10 +348,10 @@ at_end : (ws : List ℕ) (x : Left) → (j : Job) × Sound j × (ws ≡ job_word
 at_end ws x t = begun x.place ws (job_words t.0) x.words [] t.0 t.1 t.2 t.3 (sym (append-nil (job_words t.0)))
 
 -- the head, the count and the raw words were passed
-pub passed_raws : (ws : List ℕ) (s : Shape × Left) (c : ℕ × Left) (r : Left) → AreWords ws → shape_due (from 0 ws) ≡ Ok s → count_due (s.0.size.width * s.0.size.height) s.1 ≡ Ok c → raws_due s.0.kind c.0 c.1 ≡ Ok r → Passed ws s.0 (take c.0 c.1.words) r
+pub passed_raws : (ws : List ℕ) (s : Shape × Left) (c : ℕ × Left) (r : Left) → AreWords ws → shape_due (from 0 ws) ≡ Ok s → count_due (s.0.width * s.0.height) s.1 ≡ Ok c → raws_due s.0.kind c.0 c.1 ≡ Ok r → Passed ws s.0 (take c.0 c.1.words) r
 passed_raws ws s c r fit hs hc hr =
     let t = shape_takes ws s.0 s.1 hs in
-    let u = count_takes (s.0.size.width * s.0.size.height) s.1.place s.1.words c.0 c.1 hc in
+    let u = count_takes (s.0.width * s.0.height) s.1.place s.1.words c.0 c.1 hc in
     let fit1 : AreWords s.1.words = (subst AreWords t.front fit).1 in
     let fit2 : AreWords c.1.words = (subst AreWords u.front fit1).1 in
     let v = raws_takes s.0.kind c.0 c.1.place c.1.words r fit2 hr in
@@ -370,10 +370,10 @@ one_begins n ws f fit e =
     (λ h. at 0 (shape_place 0 ws f h) (at_head ws))
     (λ s hs h. (
     let t = shape_takes ws s.0 s.1 hs in
-    at 1 (count_place (s.0.size.width * s.0.size.height) s.1.place s.1.words f h ∙ t.place) (at_count ws s.0 s.1 t)))
+    at 1 (count_place (s.0.width * s.0.height) s.1.place s.1.words f h ∙ t.place) (at_count ws s.0 s.1 t)))
     (λ s c hs hc h. (
     let t = shape_takes ws s.0 s.1 hs in
-    let u = count_takes (s.0.size.width * s.0.size.height) s.1.place s.1.words c.0 c.1 hc in
+    let u = count_takes (s.0.width * s.0.height) s.1.place s.1.words c.0 c.1 hc in
     let fit1 : AreWords s.1.words = (subst AreWords t.front fit).1 in
     let fit2 : AreWords c.1.words = (subst AreWords u.front fit1).1 in
     let stop = raws_stop s.0.kind c.0 c.1.place c.1.words f fit2 h in

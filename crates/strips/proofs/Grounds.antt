@@ -66,8 +66,8 @@ raw_within ws n i e le lt =
     ∙ ap (λ (b : Bool). b && nat_lt i (2 + n)) (le-leb 2 i le)
     ∙ lt-ltb i (2 + n) lt
 
-announced_head : (ws : List ℕ) (s : Shape) (rest : List ℕ) → ws ≡ head_word s ∷ rest → Fits (Head (Ok s.kind) s.size.width s.size.height) → announced ws ≡ s.size.width * s.size.height
-announced_head ws s rest e fits = ap announced e ∙ ap cells_of (item_again (Head (Ok s.kind) s.size.width s.size.height) fits)
+announced_head : (ws : List ℕ) (s : Shape) (rest : List ℕ) → ws ≡ head_word s ∷ rest → Fits (Head (Ok s.kind) s.width s.height) → announced ws ≡ s.width * s.height
+announced_head ws s rest e fits = ap announced e ∙ ap cells_of (item_again (Head (Ok s.kind) s.width s.height) fits)
 
 -- ---- the number by what a word says
 
@@ -168,16 +168,16 @@ abbrev Either : List ℕ → StripFault → Type 0
 Either ws f = (Whole (take (told_word f) ws) × (number f ≡ 4)) ⊎ ByWord ws f
 
 -- the corner, or the extent
-window_number : (ws : List ℕ) (s : Shape) (rs : List ℕ) (m : Left) (f : StripFault) → Passed ws s rs m → announced ws ≡ s.size.width * s.size.height → Stops m.place m.words f → number f ≡ by_word ws (told_word f) (slice_get ws (told_word f))
+window_number : (ws : List ℕ) (s : Shape) (rs : List ℕ) (m : Left) (f : StripFault) → Passed ws s rs m → announced ws ≡ s.width * s.height → Stops m.place m.words f → number f ≡ by_word ws (told_word f) (slice_get ws (told_word f))
 window_number ws s rs m f p a (inl h) =
     let far : 2 ≤ m.place = omega (arith, p.place) in
-    let raw : is_raw ws m.place ≡ false = raw_late ws (s.size.width * s.size.height) m.place a (omega (arith, p.place, p.count)) in
+    let raw : is_raw ws m.place ≡ false = raw_late ws (s.width * s.height) m.place a (omega (arith, p.place, p.count)) in
     by_front ws (head_word s ∷ count_word s ∷ rs) m.words m.place f p.front (omega (arith, p.place)) (corner_place m.place m.words f h)
     (part_number corner_of ws m.words m.place f raw (λ o e. late_number corner_of corner_order m.place far o f e) h)
 window_number ws s rs m f p a (inr h) =
     let i = m.place + 1 in
     let far : 2 ≤ m.place + 1 = omega (arith, p.place) in
-    let raw : is_raw ws (m.place + 1) ≡ false = raw_late ws (s.size.width * s.size.height) (m.place + 1) a (omega (arith, p.place, p.count)) in
+    let raw : is_raw ws (m.place + 1) ≡ false = raw_late ws (s.width * s.height) (m.place + 1) a (omega (arith, p.place, p.count)) in
     let cw = item_word (Corner h.0.0 h.0.1) in
     let start = head_word s ∷ count_word s ∷ rs in
     by_front ws (start ++ (cw ∷ [])) h.1 (m.place + 1) f
@@ -187,14 +187,14 @@ window_number ws s rs m f p a (inr h) =
     (part_number extent_of ws h.1 (m.place + 1) f raw (λ o e. late_number extent_of extent_order (m.place + 1) far o f e) (extent_err (single (of_item extent_of) (from (m.place + 1) h.1)) h.0 f h.4))
 
 -- a word among the steps
-steps_number : (ws : List ℕ) (s : Shape) (rs : List ℕ) (m : Left) (g : Option Rectangle) (l : Left) (f : StripFault) → Passed ws s rs m → announced ws ≡ s.size.width * s.size.height → TheWindow m.place m.words g l → SomeSteps l.place l.words f
+steps_number : (ws : List ℕ) (s : Shape) (rs : List ℕ) (m : Left) (g : Option Rectangle) (l : Left) (f : StripFault) → Passed ws s rs m → announced ws ≡ s.width * s.height → TheWindow m.place m.words g l → SomeSteps l.place l.words f
     → number f ≡ by_word ws (told_word f) (slice_get ws (told_word f))
 steps_number ws s rs m g l f p a t k =
     let start = head_word s ∷ count_word s ∷ rs in
     let middle = window_words g ++ step_words k.steps in
     let e1 : m.words ≡ middle ++ k.rest = t.front ∙ ap (λ (v : List ℕ). window_words g ++ v) k.split ∙ sym (append_assoc (window_words g) (step_words k.steps) k.rest) in
     let far : 2 ≤ told_word f = omega (arith, p.place, t.place, k.place) in
-    let raw : is_raw ws (told_word f) ≡ false = raw_late ws (s.size.width * s.size.height) (told_word f) a (omega (arith, p.place, p.count, t.place, k.place)) in
+    let raw : is_raw ws (told_word f) ≡ false = raw_late ws (s.width * s.height) (told_word f) a (omega (arith, p.place, p.count, t.place, k.place)) in
     by_front ws (start ++ middle) k.rest (told_word f) f
     (p.front ∙ ap (λ (v : List ℕ). start ++ v) e1 ∙ sym (append_assoc start middle k.rest))
     (omega (arith, p.place, t.place, k.place, length-append start middle, length-append (window_words g) (step_words k.steps)))
@@ -228,7 +228,7 @@ numbered n ws f fit e =
     ))
     (λ s hs h. (
     let t = shape_takes ws s.0 s.1 hs in
-    let count = s.0.size.width * s.0.size.height in
+    let count = s.0.width * s.0.height in
     inr (
       parts_2 ws s (Err f) hs h,
       by_front ws (head_word s.0 ∷ []) s.1.words 1 f t.front refl (count_place count s.1.place s.1.words f h ∙ t.place)
@@ -236,12 +236,12 @@ numbered n ws f fit e =
     )))
     (λ s c hs hc h. (
     let t = shape_takes ws s.0 s.1 hs in
-    let u = count_takes (s.0.size.width * s.0.size.height) s.1.place s.1.words c.0 c.1 hc in
+    let u = count_takes (s.0.width * s.0.height) s.1.place s.1.words c.0 c.1 hc in
     let fit1 : AreWords s.1.words = (subst AreWords t.front fit).1 in
     let fit2 : AreWords c.1.words = (subst AreWords u.front fit1).1 in
     let r = raws_stop s.0.kind c.0 c.1.place c.1.words f fit2 h in
     let a = announced_head ws s.0 s.1.words t.front t.fits in
-    let raw : is_raw ws (told_word f) ≡ true = raw_within ws (s.0.size.width * s.0.size.height) (told_word f) a (omega (arith, r.place, u.place, t.place)) (omega (arith, r.place, r.few, u.place, u.count, t.place)) in
+    let raw : is_raw ws (told_word f) ≡ true = raw_within ws (s.0.width * s.0.height) (told_word f) a (omega (arith, r.place, u.place, t.place)) (omega (arith, r.place, r.few, u.place, u.count, t.place)) in
     inr (
       parts_3 ws s c (Err f) hs hc h,
       by_front ws (head_word s.0 ∷ count_word s.0 ∷ r.front) r.rest (told_word f) f
@@ -272,21 +272,21 @@ numbered n ws f fit e =
 parts_again : (j : Job) (us : List ℕ) → Sound j → (m : Left) × (parts (from 0 (job_words j ++ us)) ≡ Ok (tt, m))
 unfolding job_words
 parts_again j us t =
-    let n = j.size.width * j.size.height in
-    let s : Shape = record { kind = j.kind; size = j.size } in
+    let n = j.width * j.height in
+    let s : Shape = record { kind = j.kind; width = j.width; height = j.height } in
     let ws4 = step_words j.steps ++ item_word End ∷ us in
     let ws3 = window_words j.window ++ ws4 in
     let ws2 = j.raws ++ ws3 in
     let ws1 = item_word (Cells n) ∷ ws2 in
-    let ws = item_word (Head (Ok j.kind) j.size.width j.size.height) ∷ ws1 in
+    let ws = item_word (Head (Ok j.kind) j.width j.height) ∷ ws1 in
     let p3 = 2 + length j.raws in
     let p4 = p3 + length (window_words j.window) in
     let p5 = p4 + length j.steps + 1 in
     let a = append_assoc (step_words j.steps) end_words us in
     let b = append_assoc (window_words j.window) (step_words j.steps ++ end_words) us ∙ ap (λ (v : List ℕ). window_words j.window ++ v) a in
     let c = append_assoc j.raws (window_words j.window ++ (step_words j.steps ++ end_words)) us ∙ ap (λ (v : List ℕ). j.raws ++ v) b in
-    let same : job_words j ++ us ≡ ws = ap (λ (v : List ℕ). item_word (Head (Ok j.kind) j.size.width j.size.height) ∷ item_word (Cells n) ∷ v) c in
-    let few : n < 2 ^ 28 = count_below j.size.width j.size.height t.head.1 t.head.2 in
+    let same : job_words j ++ us ≡ ws = ap (λ (v : List ℕ). item_word (Head (Ok j.kind) j.width j.height) ∷ item_word (Cells n) ∷ v) c in
+    let few : n < 2 ^ 28 = count_below j.width j.height t.head.1 t.head.2 in
     let raws : raws_due j.kind n (from 2 ws2) ≡ Ok (from p3 ws3) = ap (λ (k : ℕ). raws_due j.kind k (from 2 ws2)) (sym t.count) ∙ raws_again j.kind j.raws ws3 2 p3 t.raws refl in
     let passed = parts_5 ws (s, from 1 ws1) (n, from 2 ws2) (from p3 ws3) (j.window, from p4 ws4) (Ok (length j.steps, from p5 us))
     (shape_again s ws1 t.head) (count_again n 1 ws2 few) raws (window_again j.window ws4 p3 p4 t.window (begins_steps j.steps us t.steps) refl) (steps_again j.steps us p4 p5 t.steps refl) in

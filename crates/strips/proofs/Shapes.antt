@@ -34,8 +34,8 @@ item_first i (w ∷ ws) x m e =
     subst (λ (y : Item × Left). (v : ℕ) × (w ∷ ws ≡ v ∷ y.1.words) × (y.1.place ≡ i + 1) × (item_of v ≡ Some y.0)) p (w, refl, refl, said_is i (item_of w) b.0 b.1)
 
 -- an item that is a head with a kind of cell
-pub shape_is : (i : ℕ) (x : Item) (s : Shape) → shape_of i x ≡ Ok s → x ≡ Head (Ok s.kind) s.size.width s.size.height
-shape_is i (Head (Ok k) w h) s e = ap (λ (t : Shape). Head (Ok t.kind) t.size.width t.size.height) (ok_is (record { kind = k; size = record { width = w; height = h } }) s e)
+pub shape_is : (i : ℕ) (x : Item) (s : Shape) → shape_of i x ≡ Ok s → x ≡ Head (Ok s.kind) s.width s.height
+shape_is i (Head (Ok k) w h) s e = ap (λ (t : Shape). Head (Ok t.kind) t.width t.height) (ok_is (record { kind = k; width = w; height = h }) s e)
 shape_is i (Head (Err n) w h) s e = absurd cc
 shape_is i (Cells n) s e = absurd cc
 shape_is i (Corner c r) s e = absurd cc
@@ -45,7 +45,7 @@ shape_is i (Call q) s e = absurd cc
 shape_is i End s e = absurd cc
 
 -- the shape that was read, if one was
-pub shape_within : (l m : Left) (i : ℕ) (x : Item) (r : Result Shape StripFault) → item_due l ≡ Ok (x, m) → r ≡ shape_of i x → IfOk r (λ s. (s.size.width < 2 ^ 12) × (s.size.height < 2 ^ 12))
+pub shape_within : (l m : Left) (i : ℕ) (x : Item) (r : Result Shape StripFault) → item_due l ≡ Ok (x, m) → r ≡ shape_of i x → IfOk r (λ s. (s.width < 2 ^ 12) × (s.height < 2 ^ 12))
 shape_within l m i x (Ok s) e h =
     let t = item_first l.place l.words x m e in
     let k = shape_is i x s (sym h) in

@@ -520,7 +520,7 @@ step_at_place i w f e = said_here is_step step_here i (item_of w) f e
 
 -- the parts up to the end word
 unfoldable pub parts : Left → Result (Unit {0} × Left) StripFault
-parts l = shape_due l >>= λ s. (count_due (s.0.size.width * s.0.size.height) s.1 >>= λ c. (raws_beside s.0.kind c.0 c.1 >>= λ r. (window_due r.1 >>= λ f. (steps_due f.1 >>= λ k. bare k.1))))
+parts l = shape_due l >>= λ s. (count_due (s.0.width * s.0.height) s.1 >>= λ c. (raws_beside s.0.kind c.0 c.1 >>= λ r. (window_due r.1 >>= λ f. (steps_due f.1 >>= λ k. bare k.1))))
 
 pub steady_parts : Steady parts
 unfolding parts
@@ -529,9 +529,9 @@ steady_parts =
     let e4 : Option Rectangle → Left → Result (Unit {0} × Left) StripFault = λ f l. steps_due l >>= λ k. e5 k.0 k.1 in
     let e3 : Unit {0} → Left → Result (Unit {0} × Left) StripFault = λ u l. window_due l >>= λ f. e4 f.0 f.1 in
     let e2 : CellKind → ℕ → Left → Result (Unit {0} × Left) StripFault = λ k n l. raws_beside k n l >>= λ r. e3 r.0 r.1 in
-    let e1 : Shape → Left → Result (Unit {0} × Left) StripFault = λ s l. count_due (s.size.width * s.size.height) l >>= λ c. e2 s.kind c.0 c.1 in
+    let e1 : Shape → Left → Result (Unit {0} × Left) StripFault = λ s l. count_due (s.width * s.height) l >>= λ c. e2 s.kind c.0 c.1 in
     let s4 : (f : Option Rectangle) → Steady (e4 f) = λ f. steady_then steps_due e5 steady_steps (λ k. steady_nothing tt) in
     let s3 : (u : Unit {0}) → Steady (e3 u) = λ u. steady_then window_due e4 steady_window s4 in
     let s2 : (k : CellKind) (n : ℕ) → Steady (e2 k n) = λ k n. steady_then (raws_beside k n) e3 (steady_raws k n) s3 in
-    let s1 : (s : Shape) → Steady (e1 s) = λ s. steady_then (count_due (s.size.width * s.size.height)) (e2 s.kind) (steady_count (s.size.width * s.size.height)) (s2 s.kind) in
+    let s1 : (s : Shape) → Steady (e1 s) = λ s. steady_then (count_due (s.width * s.height)) (e2 s.kind) (steady_count (s.width * s.height)) (s2 s.kind) in
     steady_then shape_due e1 steady_shape s1

@@ -12,11 +12,11 @@ use Rattle.strips.proofs.Steady.{bind_err, bare, parts}
 -- a refusal comes of one of the parts, and those before it were passed
 pub stopped : {P : Type 0} (n : ℕ) (ws : List ℕ) (f : StripFault) → job_from n ws ≡ Err f
     → (shape_due (from 0 ws) ≡ Err f → P)
-    → ((s : Shape × Left) → shape_due (from 0 ws) ≡ Ok s → count_due (s.0.size.width * s.0.size.height) s.1 ≡ Err f → P)
-    → ((s : Shape × Left) (c : ℕ × Left) → shape_due (from 0 ws) ≡ Ok s → count_due (s.0.size.width * s.0.size.height) s.1 ≡ Ok c → raws_due s.0.kind c.0 c.1 ≡ Err f → P)
-    → ((s : Shape × Left) (c : ℕ × Left) (r : Left) → shape_due (from 0 ws) ≡ Ok s → count_due (s.0.size.width * s.0.size.height) s.1 ≡ Ok c → raws_due s.0.kind c.0 c.1 ≡ Ok r → window_due r ≡ Err f → P)
-    → ((s : Shape × Left) (c : ℕ × Left) (r : Left) (g : Option Rectangle × Left) → shape_due (from 0 ws) ≡ Ok s → count_due (s.0.size.width * s.0.size.height) s.1 ≡ Ok c → raws_due s.0.kind c.0 c.1 ≡ Ok r → window_due r ≡ Ok g → steps_due g.1 ≡ Err f → P)
-    → ((s : Shape × Left) (c : ℕ × Left) (r : Left) (g : Option Rectangle × Left) (k : ℕ × Left) → shape_due (from 0 ws) ≡ Ok s → count_due (s.0.size.width * s.0.size.height) s.1 ≡ Ok c → raws_due s.0.kind c.0 c.1 ≡ Ok r → window_due r ≡ Ok g → steps_due g.1 ≡ Ok k → ended n k.1 ≡ Err f → P)
+    → ((s : Shape × Left) → shape_due (from 0 ws) ≡ Ok s → count_due (s.0.width * s.0.height) s.1 ≡ Err f → P)
+    → ((s : Shape × Left) (c : ℕ × Left) → shape_due (from 0 ws) ≡ Ok s → count_due (s.0.width * s.0.height) s.1 ≡ Ok c → raws_due s.0.kind c.0 c.1 ≡ Err f → P)
+    → ((s : Shape × Left) (c : ℕ × Left) (r : Left) → shape_due (from 0 ws) ≡ Ok s → count_due (s.0.width * s.0.height) s.1 ≡ Ok c → raws_due s.0.kind c.0 c.1 ≡ Ok r → window_due r ≡ Err f → P)
+    → ((s : Shape × Left) (c : ℕ × Left) (r : Left) (g : Option Rectangle × Left) → shape_due (from 0 ws) ≡ Ok s → count_due (s.0.width * s.0.height) s.1 ≡ Ok c → raws_due s.0.kind c.0 c.1 ≡ Ok r → window_due r ≡ Ok g → steps_due g.1 ≡ Err f → P)
+    → ((s : Shape × Left) (c : ℕ × Left) (r : Left) (g : Option Rectangle × Left) (k : ℕ × Left) → shape_due (from 0 ws) ≡ Ok s → count_due (s.0.width * s.0.height) s.1 ≡ Ok c → raws_due s.0.kind c.0 c.1 ≡ Ok r → window_due r ≡ Ok g → steps_due g.1 ≡ Ok k → ended n k.1 ≡ Err f → P)
     → P
 unfolding job_from
 stopped n ws f e p1 p2 p3 p4 p5 p6 =
@@ -25,10 +25,10 @@ stopped n ws f e p1 p2 p3 p4 p5 p6 =
     let fourth : Shape → ℕ × Left → Option Rectangle × Left → Result Job StripFault = λ s c f. steps_due f.1 >>= fifth s c f in
     let third : Shape → ℕ × Left → Left → Result Job StripFault = λ s c r. window_due r >>= fourth s c in
     let second : Shape → ℕ × Left → Result Job StripFault = λ s c. raws_due s.kind c.0 c.1 >>= third s c in
-    let first : Shape × Left → Result Job StripFault = λ s. count_due (s.0.size.width * s.0.size.height) s.1 >>= second s.0 in
+    let first : Shape × Left → Result Job StripFault = λ s. count_due (s.0.width * s.0.height) s.1 >>= second s.0 in
     elim (bind_err (shape_due (from 0 ws)) first f e) [
       | inl h ↦ p1 h
-      | inr s ↦ elim (bind_err (count_due (s.0.0.size.width * s.0.0.size.height) s.0.1) (second s.0.0) f s.2) [
+      | inr s ↦ elim (bind_err (count_due (s.0.0.width * s.0.0.height) s.0.1) (second s.0.0) f s.2) [
         | inl h ↦ p2 s.0 s.1 h
         | inr c ↦ elim (bind_err (raws_due s.0.0.kind c.0.0 c.0.1) (third s.0.0 c.0) f c.2) [
           | inl h ↦ p3 s.0 c.0 s.1 c.1 h
@@ -60,23 +60,23 @@ abbrev after_count : Shape → ℕ × Left → Result (Unit {0} × Left) StripFa
 after_count s c = (raws_due s.kind c.0 c.1 >>= bare) >>= after_raws
 
 abbrev after_shape : Shape × Left → Result (Unit {0} × Left) StripFault
-after_shape s = count_due (s.0.size.width * s.0.size.height) s.1 >>= after_count s.0
+after_shape s = count_due (s.0.width * s.0.height) s.1 >>= after_count s.0
 
 pub parts_1 : (ws : List ℕ) (r : Result (Shape × Left) StripFault) → shape_due (from 0 ws) ≡ r → parts (from 0 ws) ≡ (r >>= after_shape)
 unfolding parts
 parts_1 ws r h = ap (λ (z : Result (Shape × Left) StripFault). z >>= after_shape) h
 
-pub parts_2 : (ws : List ℕ) (s : Shape × Left) (r : Result (ℕ × Left) StripFault) → shape_due (from 0 ws) ≡ Ok s → count_due (s.0.size.width * s.0.size.height) s.1 ≡ r → parts (from 0 ws) ≡ (r >>= after_count s.0)
+pub parts_2 : (ws : List ℕ) (s : Shape × Left) (r : Result (ℕ × Left) StripFault) → shape_due (from 0 ws) ≡ Ok s → count_due (s.0.width * s.0.height) s.1 ≡ r → parts (from 0 ws) ≡ (r >>= after_count s.0)
 parts_2 ws s r hs h = parts_1 ws (Ok s) hs ∙ ap (λ (z : Result (ℕ × Left) StripFault). z >>= after_count s.0) h
 
-pub parts_3 : (ws : List ℕ) (s : Shape × Left) (c : ℕ × Left) (r : Result Left StripFault) → shape_due (from 0 ws) ≡ Ok s → count_due (s.0.size.width * s.0.size.height) s.1 ≡ Ok c → raws_due s.0.kind c.0 c.1 ≡ r → parts (from 0 ws) ≡ ((r >>= bare) >>= after_raws)
+pub parts_3 : (ws : List ℕ) (s : Shape × Left) (c : ℕ × Left) (r : Result Left StripFault) → shape_due (from 0 ws) ≡ Ok s → count_due (s.0.width * s.0.height) s.1 ≡ Ok c → raws_due s.0.kind c.0 c.1 ≡ r → parts (from 0 ws) ≡ ((r >>= bare) >>= after_raws)
 parts_3 ws s c r hs hc h = parts_2 ws s (Ok c) hs hc ∙ ap (λ (z : Result Left StripFault). (z >>= bare) >>= after_raws) h
 
-pub parts_4 : (ws : List ℕ) (s : Shape × Left) (c : ℕ × Left) (m : Left) (r : Result (Option Rectangle × Left) StripFault) → shape_due (from 0 ws) ≡ Ok s → count_due (s.0.size.width * s.0.size.height) s.1 ≡ Ok c → raws_due s.0.kind c.0 c.1 ≡ Ok m → window_due m ≡ r
+pub parts_4 : (ws : List ℕ) (s : Shape × Left) (c : ℕ × Left) (m : Left) (r : Result (Option Rectangle × Left) StripFault) → shape_due (from 0 ws) ≡ Ok s → count_due (s.0.width * s.0.height) s.1 ≡ Ok c → raws_due s.0.kind c.0 c.1 ≡ Ok m → window_due m ≡ r
     → parts (from 0 ws) ≡ (r >>= after_window)
 parts_4 ws s c m r hs hc hm h = parts_3 ws s c (Ok m) hs hc hm ∙ ap (λ (z : Result (Option Rectangle × Left) StripFault). z >>= after_window) h
 
-pub parts_5 : (ws : List ℕ) (s : Shape × Left) (c : ℕ × Left) (m : Left) (g : Option Rectangle × Left) (r : Result (ℕ × Left) StripFault) → shape_due (from 0 ws) ≡ Ok s → count_due (s.0.size.width * s.0.size.height) s.1 ≡ Ok c → raws_due s.0.kind c.0 c.1 ≡ Ok m → window_due m ≡ Ok g
+pub parts_5 : (ws : List ℕ) (s : Shape × Left) (c : ℕ × Left) (m : Left) (g : Option Rectangle × Left) (r : Result (ℕ × Left) StripFault) → shape_due (from 0 ws) ≡ Ok s → count_due (s.0.width * s.0.height) s.1 ≡ Ok c → raws_due s.0.kind c.0 c.1 ≡ Ok m → window_due m ≡ Ok g
     → steps_due g.1 ≡ r → parts (from 0 ws) ≡ (r >>= after_steps)
 parts_5 ws s c m g r hs hc hm hg h = parts_4 ws s c m (Ok g) hs hc hm hg ∙ ap (λ (z : Result (ℕ × Left) StripFault). z >>= after_steps) h
 
@@ -100,9 +100,9 @@ parts_passed n ws j e =
     let fourth : Shape → ℕ × Left → Option Rectangle × Left → Result Job StripFault = λ s c f. steps_due f.1 >>= fifth s c f in
     let third : Shape → ℕ × Left → Left → Result Job StripFault = λ s c r. window_due r >>= fourth s c in
     let second : Shape → ℕ × Left → Result Job StripFault = λ s c. raws_due s.kind c.0 c.1 >>= third s c in
-    let first : Shape × Left → Result Job StripFault = λ s. count_due (s.0.size.width * s.0.size.height) s.1 >>= second s.0 in
+    let first : Shape × Left → Result Job StripFault = λ s. count_due (s.0.width * s.0.height) s.1 >>= second s.0 in
     let s = bind_ok (shape_due (from 0 ws)) first j e in
-    let c = bind_ok (count_due (s.0.0.size.width * s.0.0.size.height) s.0.1) (second s.0.0) j s.2 in
+    let c = bind_ok (count_due (s.0.0.width * s.0.0.height) s.0.1) (second s.0.0) j s.2 in
     let r = bind_ok (raws_due s.0.0.kind c.0.0 c.0.1) (third s.0.0 c.0) j c.2 in
     let f = bind_ok (window_due r.0) (fourth s.0.0 c.0) j r.2 in
     let k = bind_ok (steps_due f.0.1) (fifth s.0.0 c.0 f.0) j f.2 in

@@ -54,15 +54,15 @@ part_takes {A} f i ws y m e =
 -- ---- the head
 
 pub record TheHead (ws : List ℕ) (s : Shape) (m : Left) : Type 0 where
-  pub front : ws ≡ item_word (Head (Ok s.kind) s.size.width s.size.height) ∷ m.words
-  pub fits : Fits (Head (Ok s.kind) s.size.width s.size.height)
+  pub front : ws ≡ item_word (Head (Ok s.kind) s.width s.height) ∷ m.words
+  pub fits : Fits (Head (Ok s.kind) s.width s.height)
   pub place : m.place ≡ 1
 
 pub shape_takes : (ws : List ℕ) (s : Shape) (m : Left) → shape_due (from 0 ws) ≡ Ok (s, m) → TheHead ws s m
 unfolding shape_due
 shape_takes ws s m e =
     let p = part_takes (shape_of 0) 0 ws s m e in
-    let same : p.item ≡ Head (Ok s.kind) s.size.width s.size.height = shape_is 0 p.item s p.made in
+    let same : p.item ≡ Head (Ok s.kind) s.width s.height = shape_is 0 p.item s p.made in
     record { front = p.front ∙ ap (λ (x : Item). item_word x ∷ m.words) same; fits = subst Fits same p.fits; place = p.place }
 
 -- ---- the cells word

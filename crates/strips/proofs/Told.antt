@@ -32,12 +32,12 @@ pub record TheJob (n : ℕ) (ws : List ℕ) (j : Job) : Type 0 where
 
 -- the job of its parts
 abbrev pub made : Shape → ℕ → List ℕ → Option Rectangle → ℕ → List ℕ → Job
-made s c cells f k steps = record { kind = s.kind; size = s.size; raws = take c cells; window = f; steps = map step_of (take k steps) }
+made s c cells f k steps = record { kind = s.kind; width = s.width; height = s.height; raws = take c cells; window = f; steps = map step_of (take k steps) }
 
 -- the words of the parts, behind each other
 joined : (s : Shape) (c k : ℕ) (f : Option Rectangle) (ws ws1 ws2 ws3 ws4 ws5 : List ℕ)
-    → ws ≡ item_word (Head (Ok s.kind) s.size.width s.size.height) ∷ ws1
-    → ws1 ≡ item_word (Cells (s.size.width * s.size.height)) ∷ ws2
+    → ws ≡ item_word (Head (Ok s.kind) s.width s.height) ∷ ws1
+    → ws1 ≡ item_word (Cells (s.width * s.height)) ∷ ws2
     → ws2 ≡ take c ws2 ++ ws3
     → ws3 ≡ window_words f ++ ws4
     → ws4 ≡ step_words (map step_of (take k ws4)) ++ item_word End ∷ ws5
@@ -49,8 +49,8 @@ joined s c k f ws ws1 ws2 ws3 ws4 ws5 h0 h1 h2 h3 h4 h5 =
     let e4 : ss ++ item_word End ∷ [] ≡ ws4 = ap (λ (v : List ℕ). ss ++ item_word End ∷ v) (sym h5) ∙ sym h4 in
     let e3 : window_words f ++ (ss ++ item_word End ∷ []) ≡ ws3 = ap (λ (v : List ℕ). window_words f ++ v) e4 ∙ sym h3 in
     let e2 : take c ws2 ++ (window_words f ++ (ss ++ item_word End ∷ [])) ≡ ws2 = ap (λ (v : List ℕ). take c ws2 ++ v) e3 ∙ sym h2 in
-    let e1 : item_word (Cells (s.size.width * s.size.height)) ∷ (take c ws2 ++ (window_words f ++ (ss ++ item_word End ∷ []))) ≡ ws1 = ap (λ (v : List ℕ). item_word (Cells (s.size.width * s.size.height)) ∷ v) e2 ∙ sym h1 in
-    ap (λ (v : List ℕ). item_word (Head (Ok s.kind) s.size.width s.size.height) ∷ v) e1 ∙ sym h0
+    let e1 : item_word (Cells (s.width * s.height)) ∷ (take c ws2 ++ (window_words f ++ (ss ++ item_word End ∷ []))) ≡ ws1 = ap (λ (v : List ℕ). item_word (Cells (s.width * s.height)) ∷ v) e2 ∙ sym h1 in
+    ap (λ (v : List ℕ). item_word (Head (Ok s.kind) s.width s.height) ∷ v) e1 ∙ sym h0
 
 of_job : (n : ℕ) (ws : List ℕ) (j k : Job) → j ≡ k → TheJob n ws j → TheJob n ws k
 of_job n ws j k e t = subst (TheJob n ws) e t
@@ -63,15 +63,15 @@ job_takes n ws j fit e =
     let fourth : Shape → ℕ × Left → Option Rectangle × Left → Result Job StripFault = λ s c f. steps_due f.1 >>= fifth s c f in
     let third : Shape → ℕ × Left → Left → Result Job StripFault = λ s c r. window_due r >>= fourth s c in
     let second : Shape → ℕ × Left → Result Job StripFault = λ s c. raws_due s.kind c.0 c.1 >>= third s c in
-    let first : Shape × Left → Result Job StripFault = λ s. count_due (s.0.size.width * s.0.size.height) s.1 >>= second s.0 in
+    let first : Shape × Left → Result Job StripFault = λ s. count_due (s.0.width * s.0.height) s.1 >>= second s.0 in
     let s = bind_ok (shape_due (from 0 ws)) first j e in
-    let c = bind_ok (count_due (s.0.0.size.width * s.0.0.size.height) s.0.1) (second s.0.0) j s.2 in
+    let c = bind_ok (count_due (s.0.0.width * s.0.0.height) s.0.1) (second s.0.0) j s.2 in
     let r = bind_ok (raws_due s.0.0.kind c.0.0 c.0.1) (third s.0.0 c.0) j c.2 in
     let f = bind_ok (window_due r.0) (fourth s.0.0 c.0) j r.2 in
     let k = bind_ok (steps_due f.0.1) (fifth s.0.0 c.0 f.0) j f.2 in
     let x = bind_ok (ended n k.0.1) (sixth s.0.0 c.0 f.0 k.0) j k.2 in
     let the-head = shape_takes ws s.0.0 s.0.1 s.1 in
-    let the-count = count_takes (s.0.0.size.width * s.0.0.size.height) s.0.1.place s.0.1.words c.0.0 c.0.1 c.1 in
+    let the-count = count_takes (s.0.0.width * s.0.0.height) s.0.1.place s.0.1.words c.0.0 c.0.1 c.1 in
     let fit1 : AreWords s.0.1.words = (subst AreWords the-head.front fit).1 in
     let fit2 : AreWords c.0.1.words = (subst AreWords the-count.front fit1).1 in
     let the-raws = raws_takes s.0.0.kind c.0.0 c.0.1.place c.0.1.words r.0 fit2 r.1 in

@@ -19,7 +19,8 @@ worked_strip =
 abbrev pub worked_job : Job
 worked_job = record {
   kind = Gray;
-  size = record { width = 3; height = 1 };
+  width = 3;
+  height = 1;
   raws = 7 ∷ 9 ∷ 4 ∷ [];
   window = None;
   steps = Point (record { u = 15; v = 15 }) ∷ Point (record { u = 16; v = 15 }) ∷ Call Open ∷ [];

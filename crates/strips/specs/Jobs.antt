@@ -10,7 +10,6 @@
 use Rattle.std.specs.Prelude.{◌≡◌, ℕ, ◌+◌, ◌*◌, ◌^◌, ◌<◌, ◌≤◌, true, List, [], ◌∷◌, ◌++◌, length, map, Some, None, Ok, Option, IfSome, cond, nat_lt, pos, ◌-ℤ◌}
 use Rattle.std.specs.List.{flat_map, AllByRecursion}
 use Rattle.masks.specs.declared.point.Point.{Point}
-use Rattle.sheets.specs.declared.holder.Size.{Size}
 use Rattle.sheets.specs.declared.window.Rectangle.{Rectangle}
 use Rattle.strips.specs.Words.{word_bytes}
 use Rattle.strips.specs.Kinds.{is_cell}
@@ -26,7 +25,8 @@ use Rattle.strips.specs.declared.parts.Step.TheVariants as steps
 -- the cells are raw words, row by row; a step is a point, its u and v counted from -15, or a filter
 pub record Job : Type 0 where
   pub kind : CellKind
-  pub size : Size
+  pub width : ℕ
+  pub height : ℕ
   pub raws : List ℕ
   pub window : Option Rectangle
   pub steps : List Step
@@ -60,12 +60,12 @@ abbrev pub step_words : List Step → List ℕ
 step_words ss = map (λ s. item_word (step_item s)) ss
 
 abbrev pub head : Job → Item
-head j = Head (Ok j.kind) j.size.width j.size.height
+head j = Head (Ok j.kind) j.width j.height
 
 -- head, cells and the raw words, the window, the steps, the end
 unfoldable pub job_words : Job → List ℕ
 job_words j =
-    item_word (head j) ∷ item_word (Cells (j.size.width * j.size.height)) ∷ j.raws
+    item_word (head j) ∷ item_word (Cells (j.width * j.height)) ∷ j.raws
     ++ (window_words j.window ++ (step_words j.steps ++ item_word End ∷ []))
 
 abbrev pub layout : Job → List ℕ
@@ -90,7 +90,7 @@ IsRaw k w = (w < 2 ^ 32) × (is_cell k w ≡ true)
 -- the values lie in their fields, and there are as many raw words as the head says, each a cell
 pub record Sound (j : Job) : Type 0 where
   pub head : Fits (head j)
-  pub count : length j.raws ≡ j.size.width * j.size.height
+  pub count : length j.raws ≡ j.width * j.height
   pub raws : AllByRecursion (IsRaw j.kind) j.raws
   pub window : IfSome j.window (λ f. Fits (corner f) × Fits (extent f))
   pub steps : AllByRecursion (λ s. Fits (step_item s)) j.steps

@@ -62,7 +62,7 @@ item_due l = do
 
 -- 4: the word is no head; 5: it has the number of no kind of cell
 abbrev pub shape_by : ℕ → Result CellKind NoSuchKind → ℕ → ℕ → Result Shape StripFault
-shape_by i (Ok k) w h = Ok (record { kind = k; size = record { width = w; height = h } })
+shape_by i (Ok k) w h = Ok (record { kind = k; width = w; height = h })
 shape_by i (Err n) w h = Err (At NoKind i)
 
 abbrev pub shape_of : ℕ → Item → Result Shape StripFault
@@ -164,12 +164,12 @@ ended n l = cond (none_left l.words && n == 0) (Ok l) (Err (At OutOfOrder l.plac
 unfoldable pub job_from : ℕ → List ℕ → Result Job StripFault
 job_from n ws = do
   s ← shape_due (from 0 ws)
-  c ← count_due (s.0.size.width * s.0.size.height) s.1
+  c ← count_due (s.0.width * s.0.height) s.1
   r ← raws_due s.0.kind c.0 c.1
   f ← window_due r
   k ← steps_due f.1
   e ← ended n k.1
-  Ok (record { kind = s.0.kind; size = s.0.size; raws = take c.0 c.1.words; window = f.0; steps = map step_of (take k.0 f.1.words) })
+  Ok (record { kind = s.0.kind; width = s.0.width; height = s.0.height; raws = take c.0 c.1.words; window = f.0; steps = map step_of (take k.0 f.1.words) })
 
 -- 1: the strip is too long, which is told first; then word by word
 unfoldable pub reading : List ℕ → Result Job StripFault

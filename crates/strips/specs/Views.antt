@@ -34,7 +34,8 @@ Passes due s t (Err e) = due (left s) ≡ Err e
 abbrev pub job_of : JobStrip → Job
 job_of s = record {
   kind = s.shape.kind;
-  size = s.shape.size;
+  width = s.shape.width;
+  height = s.shape.height;
   raws = numbers s.raws.now;
   window = s.window;
   steps = map step_of (numbers s.steps.now);

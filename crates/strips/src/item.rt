@@ -15,20 +15,20 @@ pub enum Item {
     // The kind of cell, or its number where no kind has it, and the size of the sheet.
     Head {
         kind: Result<CellKind, NoSuchKind>,
-        width: usize,
-        height: usize,
+        width: u32,
+        height: u32,
     },
     // So many cell words follow.
     Cells(u32),
     // Where a window begins.
     Corner {
-        column: usize,
-        row: usize,
+        column: u32,
+        row: u32,
     },
     // The size of the window.
     Extent {
-        width: usize,
-        height: usize,
+        width: u32,
+        height: u32,
     },
     // A point of a mask.
     Point(PointFields),
@@ -102,16 +102,16 @@ fn head(body: u32) -> Item
 {
     Item::Head {
         kind: CellKind::try_from((body / 0x100_0000) as u8),
-        width: (body / 0x1000 % 0x1000) as usize,
-        height: (body % 0x1000) as usize,
+        width: body / 0x1000 % 0x1000,
+        height: body % 0x1000,
     }
 }
 
 // The numbers in bits 23 to 12 and 11 to 0; the others are 0.
-fn pair(body: u32) -> Option<(usize, usize)>
+fn pair(body: u32) -> Option<(u32, u32)>
     ensures { result ≡ pair body }
 {
-    (body < 0x100_0000).then_some(((body / 0x1000) as usize, (body % 0x1000) as usize))
+    (body < 0x100_0000).then_some((body / 0x1000, body % 0x1000))
 }
 
 // Bits 9 to 5 are u + 15, 4 to 0 are v + 15, and the others are 0.

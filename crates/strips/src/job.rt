@@ -14,7 +14,6 @@ use crate::kind::CellKind;
 use crate::parts::{PointFields, Shape, Step};
 use crate::strip::Strip;
 use crate::words::word_at;
-use sheets::holder::Size;
 use sheets::window::Rectangle;
 
 // The most bytes that a strip has.
@@ -39,11 +38,18 @@ impl JobStrip<'_> {
         self.shape.kind
     }
 
-    // The size of the sheet.
-    pub fn size(&self) -> Size
-        ensures { result ≡ (job_of self.now).size }
+    // The width of the sheet.
+    pub fn width(&self) -> u32
+        ensures { result ≡ (job_of self.now).width }
     {
-        self.shape.size
+        self.shape.width
+    }
+
+    // The height of the sheet.
+    pub fn height(&self) -> u32
+        ensures { result ≡ (job_of self.now).height }
+    {
+        self.shape.height
     }
 
     // The raw words of the cells, row by row, the highest byte of each first.
@@ -173,7 +179,7 @@ fn read_words<'a>(words: &'a [[u8; 4]], over: &[u8]) -> Result<JobStrip<'a>, Str
 {
     let mut strip = Strip { words, place: 0 };
     let shape = strip.shape()?;
-    let cells = strip.count(shape.size.width * shape.size.height)?;
+    let cells = strip.count(shape.width * shape.height)?;
     let raws = strip.raws(shape.kind, cells)?;
     let window = strip.window()?;
     let steps = strip.steps()?;

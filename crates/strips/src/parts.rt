@@ -5,13 +5,13 @@ ghost use Rattle.strips.specs.Jobs.{point_of};
 use crate::kind::CellKind;
 use masks::point::Point;
 use morphology::call::Filter;
-use sheets::holder::Size;
 
 // What a head says of the sheet.
 #[derive(Clone, Copy, PartialEq, Eq, Debug)]
 pub struct Shape {
     pub kind: CellKind,
-    pub size: Size,
+    pub width: u32,
+    pub height: u32,
 }
 
 // The fields of a point, its u and its v counted from -15.

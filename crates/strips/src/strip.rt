@@ -54,14 +54,14 @@ impl<'a> Strip<'a> {
     #[tactic(auto, unfolding(crate::specs::Reading::shape_due))]
     pub(crate) fn shape(&mut self) -> Result<Shape, StripFault>
         ensures answer { Gives shape_due self.old self.new result }
-        ensures within { IfOk result (λ s. s.size.width < 2 ^ 12 × s.size.height < 2 ^ 12) }
+        ensures within { IfOk result (λ s. s.width < 2 ^ 12 × s.height < 2 ^ 12) }
     {
         self.item()?.shape()
     }
 
     // Takes the cells word, which says that so many raw words follow.
     #[tactic(auto, unfolding(crate::specs::Reading::count_due))]
-    pub(crate) fn count(&mut self, cells: usize) -> Result<usize, StripFault>
+    pub(crate) fn count(&mut self, cells: u32) -> Result<u32, StripFault>
         ensures { Gives (count_due cells) self.old self.new result }
     {
         self.item()?.count(cells)
@@ -76,7 +76,7 @@ impl<'a> Strip<'a> {
     }
 
     // Takes n raw words, cells of that kind.
-    pub(crate) fn raws(&mut self, kind: CellKind, n: usize) -> Result<&'a [[u8; 4]], StripFault>
+    pub(crate) fn raws(&mut self, kind: CellKind, n: u32) -> Result<&'a [[u8; 4]], StripFault>
         ensures passed { Passes (raws_due kind n) self.old self.new result }
         ensures words { IfOk result (λ r. numbers r.now ≡ take n (left self.old).words) }
     {
@@ -84,7 +84,7 @@ impl<'a> Strip<'a> {
         for _ in 0..n {
             self.cell(kind)?;
         }
-        Ok(&all[..n])
+        Ok(&all[..n as usize])
     }
 
     // Takes the corner and the extent of a window.
@@ -92,10 +92,16 @@ impl<'a> Strip<'a> {
     fn frame(&mut self) -> Result<Rectangle, StripFault>
         ensures { Gives frame_due self.old self.new result }
     {
-        let (left, top) = self.item()?.corner()?;
+        let (column, row) = self.item()?.corner()?;
         let (width, height) = self.item()?.extent()?;
-        let size = Size { width, height };
-        Ok(Rectangle { left, top, size })
+        Ok(Rectangle {
+            left: column as usize,
+            top: row as usize,
+            size: Size {
+                width: width as usize,
+                height: height as usize,
+            },
+        })
     }
 
     // Whether a corner stands there.
@@ -190,23 +196,26 @@ impl Placed<Item> {
             return Err(StripFault::At(Ground::OutOfOrder, self.place));
         };
         let kind = kind.map_err(|_| StripFault::At(Ground::NoKind, self.place))?;
-        let size = Size { width, height };
-        Ok(Shape { kind, size })
+        Ok(Shape {
+            kind,
+            width,
+            height,
+        })
     }
 
     // The count of the cells word, if it is that number.
-    fn count(self, cells: usize) -> Result<usize, StripFault>
+    fn count(self, cells: u32) -> Result<u32, StripFault>
         ensures { result ≡ count_of cells self.place self.said }
     {
         match self.said {
-            Item::Cells(count) if count as usize == cells => Ok(cells),
+            Item::Cells(count) if count == cells => Ok(cells),
             Item::Cells(_) => Err(StripFault::At(Ground::WrongCount, self.place)),
             _ => Err(StripFault::At(Ground::OutOfOrder, self.place)),
         }
     }
 
     // The column and the row of a corner.
-    fn corner(self) -> Result<(usize, usize), StripFault>
+    fn corner(self) -> Result<(u32, u32), StripFault>
         ensures { result ≡ corner_of self.place self.said }
     {
         match self.said {
@@ -216,7 +225,7 @@ impl Placed<Item> {
     }
 
     // The width and the height of an extent.
-    fn extent(self) -> Result<(usize, usize), StripFault>
+    fn extent(self) -> Result<(u32, u32), StripFault>
         ensures { result ≡ extent_of self.place self.said }
     {
         match self.said {

@@ -56,13 +56,8 @@ fn the_worked_strip_is_accepted(rt: HostRuntime) -> Result<(), Fail> {
     let bytes = spelled(rt.alloc(), &words)?;
     let job = read(bytes.as_slice())?;
     assert_eq!(rt; job.kind(), CellKind::Gray);
-    assert_eq!(rt;
-        job.size(),
-        Size {
-            width: 3,
-            height: 1,
-        }
-    );
+    assert_eq!(rt; job.width(), 3);
+    assert_eq!(rt; job.height(), 1);
     assert_eq!(rt; job.raw(0), Some(7));
     assert_eq!(rt; job.raw(2), Some(4));
     assert_eq!(rt; job.raw(3), None);
