@@ -23,8 +23,9 @@ use sheets::rows::Rows;
 use sheets::south_up::SouthUp;
 use sheets::window::Window;
 use std::alloc::{AllocError, Global};
-use strips::job::{JobStrip, read};
+use strips::job::JobStrip;
 use strips::kind::CellKind;
+use strips::reader::read;
 
 // Runs the job of the strip, and answers its listing; or the one line of a strip that is refused.
 pub fn run(heap: Global, bytes: &[u8]) -> Result<Vec<Line>, AllocError>

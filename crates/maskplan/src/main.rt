@@ -21,10 +21,10 @@ use texts::size::sized;
 // What the program's arguments are.
 const USAGE: &str = "usage: maskplan WIDTH HEIGHT, with a drawing on standard input";
 
-// What each of them is.
+// What is told where the first is no size.
 const WIDTH_RULE: &str = "the width is not a whole number from 1 to 2048";
 
-// The rule of the second.
+// What is told where the second is none.
 const HEIGHT_RULE: &str = "the height is not a whole number from 1 to 2048";
 
 // The words for what is wrong. A drawing alone has no parts and no cells.

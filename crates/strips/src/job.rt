@@ -1,36 +1,31 @@
 // A job, read from its strip.
-ghost use Rattle.std.specs.Prelude.{◌≡◌, ◌+◌, ◌^◌, ◌<◌, length, IfOk, IfErr, Ok};
+ghost use Rattle.std.specs.Prelude.{◌≡◌, ◌+◌, ◌^◌, ◌<◌, length, IfSome};
 ghost use Rattle.std.specs.List.{slice_get};
-ghost use Rattle.std.specs.Iterator.{YieldsFirst, item_count};
+ghost use Rattle.std.proofs.Props.{props};
 ghost use Rattle.strips.specs.Words.{numbers};
-ghost use Rattle.strips.specs.Reading.{reading, job_from};
-ghost use Rattle.strips.specs.Jobs.{Job, first_step, step_of, step_place};
-ghost use Rattle.strips.specs.Views.{job_of, steps_left, Reads};
-ghost use Rattle.strips.specs.Laws.{Told, TellsFirst, TellsGround};
+ghost use Rattle.strips.specs.Jobs.{first_step, step_of, step_place};
 
-use crate::fault::StripFault;
 use crate::item::Item;
 use crate::kind::CellKind;
 use crate::parts::{PointFields, Shape, Step};
-use crate::strip::Strip;
 use crate::words::word_at;
 use sheets::window::Rectangle;
-
-// The most bytes that a strip has.
-const MOST: usize = 65_536;
 
 // An accepted strip: the parts of the job, the words of which are lent.
 #[derive(Clone, Copy)]
 pub struct JobStrip<'a> {
-    shape: Shape,
+    pub(crate) shape: Shape,
     // The raw words of the cells, row by row.
-    raws: &'a [[u8; 4]],
-    window: Option<Rectangle>,
+    pub(crate) raws: &'a [[u8; 4]],
+    pub(crate) window: Option<Rectangle>,
     // The words of the steps.
-    steps: &'a [[u8; 4]],
+    pub(crate) steps: &'a [[u8; 4]],
+    ghost within: { IfSome window (λ r. (r.left < 2 ^ 32) × (r.top < 2 ^ 32) × (r.size.width < 2 ^ 32) × (r.size.height < 2 ^ 32)) } by { Prim.hlevel props },
 }
 
 impl JobStrip<'_> {
+    ghost use Rattle.strips.specs.Views.{job_of, steps_left};
+
     // The kind of cell of the sheet.
     pub fn kind(&self) -> CellKind
         ensures { result ≡ (job_of self.now).kind }
@@ -68,7 +63,8 @@ impl JobStrip<'_> {
 
     // The window of the sheet, if there is one.
     pub fn window(&self) -> Option<Rectangle>
-        ensures { result ≡ (job_of self.now).window }
+        ensures answer { result ≡ (job_of self.now).window }
+        ensures within { IfSome result (λ r. (r.left < 2 ^ 32) × (r.top < 2 ^ 32) × (r.size.width < 2 ^ 32) × (r.size.height < 2 ^ 32)) }
     {
         self.window
     }
@@ -120,6 +116,9 @@ pub struct Steps<'a> {
 }
 
 impl Iterator for Steps<'_> {
+    ghost use Rattle.std.specs.Iterator.{YieldsFirst, item_count};
+    ghost use Rattle.strips.specs.Views.{steps_left};
+
     type Item = Step;
 
     ghost next_gives = { YieldsFirst steps_left };
@@ -142,52 +141,4 @@ fn step_of(word: u32) -> Step
         Ok(Item::Call(filter)) => Step::Call(filter),
         _ => Step::Point(PointFields { u: 0, v: 0 }),
     }
-}
-
-// Reads the strip of a job, or says why it is none. Copies none of the bytes.
-pub fn read(bytes: &[u8]) -> Result<JobStrip<'_>, StripFault>
-    // Its answer is the reading of the bytes.
-    ensures exact { Reads (reading bytes.now) result }
-    // An accepted strip is the strip of the job that it tells.
-    ensures found { IfOk result (λ s. Told bytes.now (job_of s)) }
-    // The strip of a job is accepted, and tells that job.
-    ensures only { (j : Job) → Told bytes.now j → Reads (Ok j) result }
-    // A refusal is told with the first word that begins the strip of no job.
-    ensures first { IfErr result (λ f. TellsFirst bytes.now f) }
-    // Its number is that of what stands there.
-    ensures cause { IfErr result (λ f. TellsGround bytes.now f) }
-{
-    judged(bytes)
-}
-
-// Judges the length, and then the words.
-#[tactic(auto, unfolding(crate::specs::Reading::reading))]
-fn judged(bytes: &[u8]) -> Result<JobStrip<'_>, StripFault>
-    ensures { Reads (reading bytes.now) result }
-{
-    if bytes.len() > MOST {
-        return Err(StripFault::TooLong);
-    }
-    let (words, over) = bytes.as_chunks();
-    read_words(words, over)
-}
-
-// Reads the words, whatever their number, with the bytes behind them that are no whole word.
-#[tactic(auto, unfolding(crate::specs::Reading::job_from))]
-fn read_words<'a>(words: &'a [[u8; 4]], over: &[u8]) -> Result<JobStrip<'a>, StripFault>
-    ensures { Reads (job_from (length over.now) (numbers words.now)) result }
-{
-    let mut strip = Strip { words, place: 0 };
-    let shape = strip.shape()?;
-    let cells = strip.count(shape.width * shape.height)?;
-    let raws = strip.raws(shape.kind, cells)?;
-    let window = strip.window()?;
-    let steps = strip.steps()?;
-    strip.ended(over)?;
-    Ok(JobStrip {
-        shape,
-        raws,
-        window,
-        steps,
-    })
 }

@@ -21,6 +21,9 @@ mod strip;
 
 // A job, read from its strip.
 pub mod job;
+
+// The reader of strips.
+pub mod reader;
 // The law of strips, as the promise of a call.
 pub mod laws;
 

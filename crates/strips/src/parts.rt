@@ -6,7 +6,7 @@ use crate::kind::CellKind;
 use masks::point::Point;
 use morphology::call::Filter;
 
-// What a head says of the sheet.
+// What a head says of the sheet. That its numbers are small, which they are as u32, no `Size` would tell.
 #[derive(Clone, Copy, PartialEq, Eq, Debug)]
 pub struct Shape {
     pub kind: CellKind,

@@ -1,5 +1,5 @@
 // A strip that is being read, word by word.
-ghost use Rattle.std.specs.Prelude.{◌≡◌, ◌+◌, ◌^◌, ◌<◌, length, take, IfOk, ◌==◌};
+ghost use Rattle.std.specs.Prelude.{◌≡◌, ◌+◌, ◌^◌, ◌<◌, length, take, IfOk, IfSome, ◌==◌};
 ghost use Rattle.strips.specs.Words.{kind, numbers};
 ghost use Rattle.strips.specs.Reading.{cell_of, shape_of, count_of, corner_of, extent_of, is_step};
 
@@ -90,7 +90,8 @@ impl<'a> Strip<'a> {
     // Takes the corner and the extent of a window.
     #[tactic(auto, unfolding(crate::specs::Reading::frame_due))]
     fn frame(&mut self) -> Result<Rectangle, StripFault>
-        ensures { Gives frame_due self.old self.new result }
+        ensures answer { Gives frame_due self.old self.new result }
+        ensures within { IfOk result (λ r. (r.left < 2 ^ 32) × (r.top < 2 ^ 32) × (r.size.width < 2 ^ 32) × (r.size.height < 2 ^ 32)) }
     {
         let (column, row) = self.item()?.corner()?;
         let (width, height) = self.item()?.extent()?;
@@ -116,7 +117,8 @@ impl<'a> Strip<'a> {
     // Takes the window, if a corner stands there.
     #[tactic(auto, unfolding(crate::specs::Reading::window_due))]
     pub(crate) fn window(&mut self) -> Result<Option<Rectangle>, StripFault>
-        ensures { Gives window_due self.old self.new result }
+        ensures answer { Gives window_due self.old self.new result }
+        ensures within { IfOk result (λ w. IfSome w (λ r. (r.left < 2 ^ 32) × (r.top < 2 ^ 32) × (r.size.width < 2 ^ 32) × (r.size.height < 2 ^ 32))) }
     {
         if self.begins() {
             self.frame().map(Some)

@@ -1,8 +1,8 @@
 // Strips in words: one that is accepted, and each refusal once.
 use crate::fault::{Ground, StripFault};
-use crate::job::read;
 use crate::kind::CellKind;
 use crate::parts::{PointFields, Step};
+use crate::reader::read;
 use masks::point::Point;
 use morphology::call::Filter;
 use sheets::holder::Size;

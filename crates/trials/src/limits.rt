@@ -12,7 +12,7 @@ use morphology::refusal::Refusal;
 use sheets::holder::Size;
 use sheets::rows::Rows;
 use std::io;
-use strips::job::read;
+use strips::reader::read;
 
 // Tells of tables, offsets, widths, words and strips.
 pub fn tell(rt: &HostRuntime) -> anyhow::Result<()> {

@@ -4,7 +4,7 @@ use Rattle.strips.specs.Views.{Reads}
 use Rattle.strips.proofs.Trips.{found, retold}
 use Rattle.strips.proofs.Firsts.{tells_first}
 use Rattle.strips.proofs.Grounds.{tells_ground}
-use Rattle.strips.proofs.job.read.Goals as goal
+use Rattle.strips.proofs.reader.read.Goals as goal
 
 pub returns-clause-found : goal.returns-clause-found
 returns-clause-found c = found c.args.bytes.now c.judged.result (λ i. omega (arith, c.type_inv.bytes i)) c.judged.ensures

@@ -4,7 +4,7 @@ use Rattle.strips.specs.Words.{numbers}
 use Rattle.strips.specs.Views.{Reads}
 use Rattle.strips.proofs.Bytes.{chunks_words}
 use Rattle.strips.proofs.Trips.{short_reading}
-use Rattle.strips.proofs.job.judged.Goals as goal
+use Rattle.strips.proofs.reader.judged.Goals as goal
 
 pub returns : goal.returns
 returns c =
