@@ -5,7 +5,7 @@ use lib.Ieee.Bits.{nan_bits_above, nan_bits_is, to_bits-of_bits}
 use Rattle.std.proofs.lemmas.Int.{ints}
 use Rattle.std.proofs.lemmas.Bool.Decides.{nat_tests}
 use Rattle.cells.specs.Kinds.{rank, counted, return_bounds, return_cell}
-use Rattle.cells.specs.Chain.{held}
+use Rattle.cells.specs.Chain.{clamped}
 
 -- counted bits are those of a number with or without its sign, and never the negative zero
 pub counted_either : (b : ℕ) → (counted b ≤ 0x7f800000) ⊎ ((2 ^ 31 < counted b) × (counted b ≤ 0xff800000))
@@ -48,4 +48,4 @@ counted_back b = to_bits-of_bits binary32 (counted b) (counted_below b) (false_n
 
 -- bits that are what b counts as mean the cell that b means
 pub return_same : (b r : ℕ) → r ≡ counted b → return_cell r ≡ return_cell b
-return_same b r e = ap return_cell e ∙ ap (λ (n : ℕ). held (rank 0xff800000) (rank 0x7f800000) return_bounds (rank n)) (counted_again b)
+return_same b r e = ap return_cell e ∙ ap (λ (n : ℕ). clamped (rank 0xff800000) (rank 0x7f800000) return_bounds (rank n)) (counted_again b)

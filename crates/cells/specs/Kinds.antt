@@ -8,7 +8,7 @@ use Rattle.std.specs.Prelude.{ℕ, ◌-◌, ◌^◌, ◌<◌, cond, ℤ, pos, �
 use Rattle.std.specs.Int.Signed.{le_z_yes}
 use Rattle.bits.specs.Bit.{bit}
 use Rattle.cells.specs.Lattice.{Lattice}
-use Rattle.cells.specs.Chain.{Within, chain, held}
+use Rattle.cells.specs.Chain.{Within, chain, clamped}
 use Rattle.cells.specs.Sets.{Subset, subsets}
 
 -- Gray: a whole number from 0 to 255.
@@ -22,7 +22,7 @@ abbrev pub grays : Lattice GrayCell
 grays = chain (pos 0) (pos 255) gray_bounds
 
 abbrev pub gray_cell : ℕ → GrayCell
-gray_cell n = held (pos 0) (pos 255) gray_bounds (pos n)
+gray_cell n = clamped (pos 0) (pos 255) gray_bounds (pos n)
 
 -- Height: a signed number of 32 bits, in millimetres.
 abbrev pub height_bounds : neg_ℤ (pos (2 ^ 31)) ≤ℤ pos (2 ^ 31 - 1)
@@ -35,7 +35,7 @@ abbrev pub heights : Lattice HeightCell
 heights = chain (neg_ℤ (pos (2 ^ 31))) (pos (2 ^ 31 - 1)) height_bounds
 
 abbrev pub height_cell : ℤ → HeightCell
-height_cell z = held (neg_ℤ (pos (2 ^ 31))) (pos (2 ^ 31 - 1)) height_bounds z
+height_cell z = clamped (neg_ℤ (pos (2 ^ 31))) (pos (2 ^ 31 - 1)) height_bounds z
 
 -- Flags: a set of eight marks, numbered from 0 to 7.
 abbrev pub Mark : Type 0
@@ -73,4 +73,4 @@ abbrev pub returns : Lattice ReturnCell
 returns = chain (rank 0xff800000) (rank 0x7f800000) return_bounds
 
 abbrev pub return_cell : ℕ → ReturnCell
-return_cell b = held (rank 0xff800000) (rank 0x7f800000) return_bounds (rank (counted b))
+return_cell b = clamped (rank 0xff800000) (rank 0x7f800000) return_bounds (rank (counted b))

@@ -1,6 +1,7 @@
 -- Read in this order.
 pub mod Lattice
 pub mod Levels
+pub mod Picks
 pub mod Chain
 pub mod Sets
 pub mod Kinds

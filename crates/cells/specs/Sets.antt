@@ -3,20 +3,12 @@
 --     subsets I        their lattice
 use Rattle.std.specs.Prelude.{◌≡◌, Bool, true, false, ◌&&◌, ◌||◌, refl}
 use Rattle.std.proofs.Math.Path.{fun_ext}
-use Rattle.std.proofs.Math.Bool.{and_assoc, or_assoc, and_comm, or_comm}
+use Rattle.std.proofs.Math.Bool.{and_assoc, or_assoc, and_comm, or_comm, and_self, or_self, and-true, or-false}
 use Rattle.cells.specs.Lattice.{Lattice}
 
 -- a set says of each thing whether it is in it
 abbrev pub Subset : Type 0 → Type 0
 Subset I = I → Bool
-
-pub and_idem : (a : Bool) → (a && a) ≡ a
-and_idem true = refl
-and_idem false = refl
-
-pub or_idem : (a : Bool) → (a || a) ≡ a
-or_idem true = refl
-or_idem false = refl
 
 pub and_or : (a b : Bool) → (a && (a || b)) ≡ a
 and_or true b = refl
@@ -26,14 +18,6 @@ pub or_and : (a b : Bool) → (a || (a && b)) ≡ a
 or_and true b = refl
 or_and false b = refl
 
-pub and_true : (a : Bool) → (a && true) ≡ a
-and_true true = refl
-and_true false = refl
-
-pub or_false : (a : Bool) → (a || false) ≡ a
-or_false true = refl
-or_false false = refl
-
 abbrev pub subsets : (I : Type 0) → Lattice (Subset I)
 subsets I = record {
   least = λ i. false;
@@ -42,12 +26,12 @@ subsets I = record {
   join = λ a b i. a i || b i;
   meet_assoc = λ a b c. fun_ext (λ i. and_assoc (a i) (b i) (c i));
   meet_comm = λ a b. fun_ext (λ i. and_comm (a i) (b i));
-  meet_idem = λ a. fun_ext (λ i. and_idem (a i));
+  meet_idem = λ a. fun_ext (λ i. and_self (a i));
   join_assoc = λ a b c. fun_ext (λ i. or_assoc (a i) (b i) (c i));
   join_comm = λ a b. fun_ext (λ i. or_comm (a i) (b i));
-  join_idem = λ a. fun_ext (λ i. or_idem (a i));
+  join_idem = λ a. fun_ext (λ i. or_self (a i));
   meet_join = λ a b. fun_ext (λ i. and_or (a i) (b i));
   join_meet = λ a b. fun_ext (λ i. or_and (a i) (b i));
-  meet_greatest = λ a. fun_ext (λ i. and_true (a i));
-  join_least = λ a. fun_ext (λ i. or_false (a i));
+  meet_greatest = λ a. fun_ext (λ i. and-true (a i));
+  join_least = λ a. fun_ext (λ i. or-false (a i));
 }

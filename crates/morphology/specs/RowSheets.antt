@@ -9,7 +9,7 @@ use Rattle.std.specs.Prelude.{◌≡◌, ℕ, List, map, length, pos, ◌+ℤ◌
 use Rattle.std.specs.List.{slice_get, range_with_len}
 use Rattle.std.specs.Option.{option_map}
 use Rattle.cells.specs.Levels.{half_down}
-use Rattle.cells.specs.Chain.{held}
+use Rattle.cells.specs.Chain.{clamped}
 use Rattle.cells.specs.Kinds.{GrayCell, gray_bounds, gray_cell, Marks, marks_of}
 use Rattle.masks.specs.declared.point.Point.{Point}
 use Rattle.sheets.specs.Sheet.{Sheet, sheet_of}
@@ -32,7 +32,7 @@ Shows s ns = (s.height ≡ 1) × (map (option_map (λ c. c.number)) (read_row s)
 
 -- half of the sum of the two numbers, rounded down
 abbrev pub halfway : GrayCell → GrayCell → GrayCell
-halfway a b = held (pos 0) (pos 255) gray_bounds (half_down (a.number +ℤ b.number))
+halfway a b = clamped (pos 0) (pos 255) gray_bounds (half_down (a.number +ℤ b.number))
 
 -- a row of flags, each a number whose bits are the marks
 abbrev pub flag_row : List ℕ → Sheet Marks
