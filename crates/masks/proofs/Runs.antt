@@ -8,7 +8,7 @@ use Rattle.std.proofs.lemmas.Int.{ints}
 use Rattle.std.proofs.lemmas.Bool.{cases_Bool, cases_eq, cases_lt, and_parts, and_from, both_ways, not-true, not_from_false}
 use Rattle.masks.specs.Points.{Among, Earlier, InOrder}
 use Rattle.masks.specs.Rows.{marked, holds, points}
-use Rattle.masks.specs.Chords.{run, starts_at, starts, chord_at, chords, OnGrid, Run, first, Chords}
+use Rattle.masks.specs.Chords.{run, starts_at, starts, chord_at, chords, OnGrid, IsChord, first_point, AllChords}
 use Rattle.masks.specs.declared.point.Point.{Point}
 use Rattle.masks.specs.declared.chord.Chord.{Chord}
 use Rattle.masks.specs.Cost.{farthest, northmost, southmost, spanned}
@@ -121,7 +121,7 @@ module _ (rows : List ℕ) where
       holds_marked rows (record { u = (pos (suc c) -ℤ pos 15) -ℤ pos 1; v = pos r -ℤ pos 15 }) c r (omega (arith, ints)) (omega (arith, ints)) ∙ starts_left r c h
 
   -- what starts in a column is a run
-  chord_run : (r c : ℕ) → starts_at rows r c ≡ true → Run rows (chord_at rows r c)
+  chord_run : (r c : ℕ) → starts_at rows r c ≡ true → IsChord rows (chord_at rows r c)
   chord_run r c h = record {
     some = run_some c r (starts_marked r c h);
     points = λ j l. holds_marked rows (record { u = (pos c -ℤ pos 15) +ℤ pos j; v = pos r -ℤ pos 15 }) (c + j) r (omega (arith, ints)) (omega (arith, ints)) ∙ run_points c r j l;
@@ -134,7 +134,7 @@ module _ (rows : List ℕ) where
   starts_there (suc c) r h left = and_from (marked rows (suc c) r) (not (marked rows c r)) h (not_from_false (marked rows c r) (left c refl))
 
   -- a run starts where a chord starts, and is as long
-  run_chord : (ch : Chord) → Run rows ch → (r : ℕ) × (c : ℕ) × (r < 31) × (c < 31) × (starts_at rows r c ≡ true) × (ch ≡ chord_at rows r c)
+  run_chord : (ch : Chord) → IsChord rows ch → (r : ℕ) × (c : ℕ) × (r < 31) × (c < 31) × (starts_at rows r c ≡ true) × (ch ≡ chord_at rows r c)
   run_chord ch R =
       let q = held_at rows ((ch.start +ℤ pos 0) +ℤ pos 15) (ch.v +ℤ pos 15) (R.points 0 R.some) in
       let c = q.0 in
@@ -164,18 +164,18 @@ module _ (rows : List ℕ) where
       (among_map (chord_at rows r) (filter (starts_at rows r) (range_with_len 0 31)) c
       (among_kept (starts_at rows r) (range_with_len 0 31) c (among_counting 31 0 c (omega arith) hc) h))
 
-  among_chord : (ch : Chord) → Among (chords rows 31) ch → Run rows ch
+  among_chord : (ch : Chord) → Among (chords rows 31) ch → IsChord rows ch
   unfolding chords starts
   among_chord ch i =
       let j = joined_among (λ y. map (chord_at rows y) (filter (starts_at rows y) (range_with_len 0 31))) (range_with_len 0 31) ch i in
       let k = map_among (chord_at rows j.0) (filter (starts_at rows j.0) (range_with_len 0 31)) ch j.2 in
-      subst (Run rows) (sym k.2) (chord_run j.0 k.0 (kept_among (starts_at rows j.0) (range_with_len 0 31) k.0 k.1).1)
+      subst (IsChord rows) (sym k.2) (chord_run j.0 k.0 (kept_among (starts_at rows j.0) (range_with_len 0 31) k.0 k.1).1)
 
-  chords_order : InOrder (λ a b. Earlier (first a) (first b)) (chords rows 31)
+  chords_order : InOrder (λ a b. Earlier (first_point a) (first_point b)) (chords rows 31)
   unfolding chords starts
-  chords_order = grid_order first (chord_at rows) (λ r c. refl) (starts_at rows) 31 31
+  chords_order = grid_order first_point (chord_at rows) (λ r c. refl) (starts_at rows) 31 31
 
-  pub all_runs : Chords rows (chords rows 31)
+  pub all_runs : AllChords rows (chords rows 31)
   all_runs = record {
     runs = λ ch. (
       among_chord ch,

@@ -3,8 +3,8 @@
 --     starts rows r n        the columns below n in which a chord starts
 --     chords rows n          the chords in the rows below n, row by row and each row from the left
 --     OnGrid ch              ch starts on the grid, and is no longer than a row of it
---     Run rows ch            ch is such a run, in the subject's own words
---     Chords rows cs         cs has just the runs, by row and then by start
+--     IsChord rows ch        ch is such a run, in the subject's own words
+--     AllChords rows cs      cs has just the runs, by row and then by start
 use Rattle.std.specs.Prelude.{◌≡◌, ℕ, zero, suc, ◌<◌, ◌≤◌, Bool, true, false, not, ◌&&◌, ◌↔◌, List, map, ℤ, pos, ◌+ℤ◌, ◌-ℤ◌, neg_ℤ, ◌≤ℤ◌, filter}
 use Rattle.std.specs.List.{range_with_len, flat_map, prefix_len}
 use Rattle.masks.specs.Points.{Among, Earlier, InOrder}
@@ -41,17 +41,17 @@ abbrev pub OnGrid : Chord → Type 0
 OnGrid ch = Near ch.start × Near ch.v × (1 ≤ ch.length) × (ch.length < 32)
 
 -- a run of points in one row that cannot be lengthened at either end
-pub record Run (rows : List ℕ) (ch : Chord) : Type 0 where
+pub record IsChord (rows : List ℕ) (ch : Chord) : Type 0 where
   pub some : 1 ≤ ch.length
   pub points : (j : ℕ) → j < ch.length → holds rows (record { u = ch.start +ℤ pos j; v = ch.v }) ≡ true
   pub left : holds rows (record { u = ch.start -ℤ pos 1; v = ch.v }) ≡ false
   pub right : holds rows (record { u = ch.start +ℤ pos ch.length; v = ch.v }) ≡ false
 
 -- the first point of a chord
-abbrev pub first : Chord → Point
-first ch = record { u = ch.start; v = ch.v }
+abbrev pub first_point : Chord → Point
+first_point ch = record { u = ch.start; v = ch.v }
 
 -- the list has the runs and nothing else, in order
-pub record Chords (rows : List ℕ) (cs : List Chord) : Type 0 where
-  pub runs : (ch : Chord) → Among cs ch ↔ Run rows ch
-  pub order : InOrder (λ a b. Earlier (first a) (first b)) cs
+pub record AllChords (rows : List ℕ) (cs : List Chord) : Type 0 where
+  pub runs : (ch : Chord) → Among cs ch ↔ IsChord rows ch
+  pub order : InOrder (λ a b. Earlier (first_point a) (first_point b)) cs

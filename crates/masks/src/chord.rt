@@ -2,7 +2,7 @@
 ghost use Rattle.std.specs.Prelude.{◌≡◌, ◌+◌, ◌<◌, ◌≤◌, ◌++◌, map, length, pos, neg_ℤ, ◌≤ℤ◌};
 ghost use Rattle.std.specs.Int.{int_min, int_max};
 ghost use Rattle.std.specs.List.{AllByRecursion};
-ghost use Rattle.masks.specs.Chords.{run, starts_at, starts, chord_at, chords, Chords, OnGrid};
+ghost use Rattle.masks.specs.Chords.{run, starts_at, starts, chord_at, chords, AllChords, OnGrid};
 ghost use Rattle.masks.specs.Cost.{farthest};
 
 use crate::mask::Mask;
@@ -41,7 +41,7 @@ impl ChordList {
     // The chords of the mask: just its maximal runs, row by row and each row from the left.
     pub fn of(mask: &Mask) -> ChordList
         ensures list { result ≡ chords mask.now.rows 31 }
-        ensures runs { Chords mask.now.rows (chords mask.now.rows 31) }
+        ensures runs { AllChords mask.now.rows (chords mask.now.rows 31) }
     {
         // By number: what starts in a row is asked by column and row.
         let mut list = ArrayVec::new();

@@ -3,7 +3,7 @@ use Rattle.std.proofs.Common.{◌≡◌, ℕ, ◌+◌, ◌-◌, ◌<◌, ◌≤�
 use Rattle.std.proofs.lemmas.Int.{ints}
 use Rattle.masks.specs.Points.{Among}
 use Rattle.masks.specs.Rows.{points}
-use Rattle.masks.specs.Chords.{chords, chord_at, Run}
+use Rattle.masks.specs.Chords.{chords, chord_at, IsChord}
 use Rattle.masks.specs.declared.point.Point.{Point}
 use Rattle.masks.specs.declared.chord.Chord.{Chord}
 use Rattle.masks.proofs.Grids.{same_point, held_at, held_among, among_held, marked_column, marked_row}
@@ -20,11 +20,11 @@ pub record Lies (ch : Chord) : Type 0 where
   pub ends : column + ch.length ≤ 31
 
 module _ (ws : List ℕ) where
-  run_of : (ch : Chord) → Among (chords ws 31) ch → Run ws ch
+  run_of : (ch : Chord) → Among (chords ws 31) ch → IsChord ws ch
   run_of ch i = ((all_runs ws).runs ch).0 i
 
   -- a point of a chord, in the grid
-  spot : (ch : Chord) → Run ws ch → (j : ℕ) → j < ch.length → (c : ℕ) × (r : ℕ) × ((ch.start +ℤ pos j) +ℤ pos 15 ≡ pos c) × (ch.v +ℤ pos 15 ≡ pos r) × (c < 31) × (r < 31)
+  spot : (ch : Chord) → IsChord ws ch → (j : ℕ) → j < ch.length → (c : ℕ) × (r : ℕ) × ((ch.start +ℤ pos j) +ℤ pos 15 ≡ pos c) × (ch.v +ℤ pos 15 ≡ pos r) × (c < 31) × (r < 31)
   spot ch R j h =
       let q = held_at ws ((ch.start +ℤ pos j) +ℤ pos 15) (ch.v +ℤ pos 15) (R.points j h) in
       (q.0, q.1, q.2, q.3, marked_column ws q.0 q.1 q.4, marked_row ws q.0 q.1 q.4)
