@@ -8,6 +8,7 @@ use Rattle.std.specs.Prelude.{ℕ, ◌+◌, ◌*◌, ◌/◌, ◌%◌, List}
 use Rattle.sheets.specs.declared.lent.Lent.{Lent}
 use Rattle.sheets.specs.declared.tiles.InSquares.{InSquares}
 use Rattle.sheets.specs.Sheet.{Sheet, held}
+use Rattle.sheets.specs.Lent.{lent_sheet}
 
 -- n / 8, rounded up
 abbrev pub eights : ℕ → ℕ
@@ -25,6 +26,6 @@ tile_place across x y = (y / 8 * across + x / 8) * 64 + (y % 8 * 8 + x % 8)
 abbrev pub in_tiles : {C : Type 0} → ℕ → ℕ → List C → Sheet C
 in_tiles w h cells = held (room w h) w h (tile_place (eights w)) cells
 
--- the tiles of their width and height over the lent cells
+-- the lent cells in squares
 abbrev pub tiles_sheet : {C : Type 0} {g : _} → Lent C InSquares g → Sheet C
-tiles_sheet t = in_tiles t.size.width t.size.height t.cells.now
+tiles_sheet t = lent_sheet room (λ w. tile_place (eights w)) t
