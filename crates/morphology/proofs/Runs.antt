@@ -10,7 +10,8 @@ use Rattle.morphology.specs.Refusals.{fits, sized, by_mask}
 use Rattle.morphology.specs.Calls.{State, new, filtered, verdict, sheet_by, after, run, sheets_shown}
 use Rattle.morphology.specs.declared.standing.Sort.{Sort}
 use Rattle.morphology.specs.declared.standing.Sort.TheVariants.{Opening, Closing}
-use Rattle.morphology.specs.FourSheets.{filter_of, by_sort, Step, LayMask, ApplySort, call, counted, accepted, other, four, FourSheets}
+use Rattle.morphology.specs.Standing.{filter_of, by_sort, other}
+use Rattle.morphology.specs.FourSheets.{Step, LayMask, ApplySort, call, counted, accepted, four, FourSheets}
 use Rattle.morphology.specs.declared.refusal.Refusal.{Refusal}
 use Rattle.morphology.specs.declared.refusal.Refusal.TheVariants.{WrongSize, ShortTable}
 use Rattle.morphology.specs.declared.call.Call.TheVariants.{Lay, Apply}

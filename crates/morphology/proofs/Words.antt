@@ -3,7 +3,9 @@ use Rattle.std.proofs.Common.{◌≡◌, Bool, true, false, cond, List, [], ◌�
 use Rattle.masks.specs.Points.{Among}
 use Rattle.morphology.specs.declared.standing.Sort.{Sort}
 use Rattle.morphology.specs.declared.standing.Sort.TheVariants.{Opening, Closing}
-use Rattle.morphology.specs.FourSheets.{other, same, last, mixed, by_ends, outcome, four}
+use Rattle.morphology.specs.declared.standing.Standing.TheVariants.{Once, Twice, Thrice}
+use Rattle.morphology.specs.Standing.{other, named}
+use Rattle.morphology.specs.FourSheets.{same, last, mixed, by_ends, outcome, four}
 
 -- a word done letter by letter
 abbrev pub through : {S : Type 0} → (Sort → S → S) → List Sort → S → S
@@ -13,11 +15,13 @@ through by (a ∷ bs) f = through by bs (by a f)
 module _ {S : Type 0} (by : Sort → S → S) (twice : (a : Sort) (f : S) → by a (by a f) ≡ by a f)
     (again : (a : Sort) (f : S) → by (other a) (by a (by (other a) (by a f))) ≡ by (other a) (by a f)) where
   -- one letter more of the first sort
-  repeated : (a z : Sort) (mix : Bool) (f : S) → by_ends by a z mix (by a f) ≡ by_ends by a z mix f
-  repeated a z mix f = ap (λ g. cond (same a z) (cond mix (by a (by (other a) g)) g) (by z g)) (twice a f)
+  repeated : (a : Sort) (b mix : Bool) (f : S) → named by (cond b (cond mix (Thrice a) (Once a)) (Twice a)) (by a f) ≡ named by (cond b (cond mix (Thrice a) (Once a)) (Twice a)) f
+  repeated a true true f = ap (λ g. by a (by (other a) g)) (twice a f)
+  repeated a true false f = twice a f
+  repeated a false mix f = ap (by (other a)) (twice a f)
 
   -- one letter more of the other sort
-  crossed : (a z : Sort) (mix : Bool) (f : S) → by_ends by (other a) z mix (by a f) ≡ by_ends by a z true f
+  crossed : (a z : Sort) (mix : Bool) (f : S) → named by (by_ends (other a) z mix) (by a f) ≡ named by (by_ends a z true) f
   crossed Opening Opening mix f = refl
   crossed Opening Closing false f = refl
   crossed Opening Closing true f = again Opening f
@@ -25,11 +29,11 @@ module _ {S : Type 0} (by : Sort → S → S) (twice : (a : Sort) (f : S) → by
   crossed Closing Opening false f = refl
   crossed Closing Opening true f = again Closing f
 
-  finished : (a : Sort) (bs : List Sort) (f : S) → through by bs (by a f) ≡ by_ends by a (last a bs) (mixed a bs) f
+  finished : (a : Sort) (bs : List Sort) (f : S) → through by bs (by a f) ≡ named by (by_ends a (last a bs) (mixed a bs)) f
   finished Opening [] f = refl
   finished Closing [] f = refl
-  finished Opening (Opening ∷ bs) f = finished Opening bs (by Opening f) ∙ repeated Opening (last Opening bs) (mixed Opening bs) f
-  finished Closing (Closing ∷ bs) f = finished Closing bs (by Closing f) ∙ repeated Closing (last Closing bs) (mixed Closing bs) f
+  finished Opening (Opening ∷ bs) f = finished Opening bs (by Opening f) ∙ repeated Opening (same Opening (last Opening bs)) (mixed Opening bs) f
+  finished Closing (Closing ∷ bs) f = finished Closing bs (by Closing f) ∙ repeated Closing (same Closing (last Closing bs)) (mixed Closing bs) f
   finished Opening (Closing ∷ bs) f = finished Closing bs (by Opening f) ∙ crossed Opening (last Closing bs) (mixed Closing bs) f
   finished Closing (Opening ∷ bs) f = finished Opening bs (by Closing f) ∙ crossed Closing (last Opening bs) (mixed Opening bs) f
 
@@ -37,7 +41,7 @@ module _ {S : Type 0} (by : Sort → S → S) (twice : (a : Sort) (f : S) → by
   through_outcome [] f = refl
   through_outcome (a ∷ bs) f = finished a bs f
 
-  ends_among : (a z : Sort) (mix : Bool) (f : S) → Among (four by a f) (by_ends by a z mix f)
+  ends_among : (a z : Sort) (mix : Bool) (f : S) → Among (four by a f) (named by (by_ends a z mix) f)
   ends_among Opening Closing mix f = inr (inr (inl refl))
   ends_among Closing Opening mix f = inr (inr (inl refl))
   ends_among Opening Opening false f = inr (inl refl)

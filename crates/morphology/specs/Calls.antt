@@ -1,17 +1,17 @@
 -- A worksheet's state, and what calls on it do, answer and show.
---     filter_name q          the name of a filter, byte by byte
 --     State C                a sheet, and perhaps a mask
 --     new f                  the state of a new worksheet: the sheet f and no mask
 --     filtered k q m f       what the filter q makes of a sheet under the mask m
 --     picks q m w h          how many picks it takes
 --     verdict s n            the mask that a filter with a table of n cells goes ahead under, or its refusal
+--     answered q n s         what the filter q with a table of n cells gives back: its picks, or the refusal
+--     reply r                that, as the answer to a call
 --     after k c s            the state after a call
 --     answer c s             the answer to a call
---     answered q n s         what the filter q with a table of n cells itself gives back: its picks, or the refusal
---     reply r                that, as the answer to a call
 --     run k cs s             the state after a list of calls
 --     answers k cs s         the answers to a list of calls
 --     sheets_shown k cs s    the sheet before any call, and the sheet after each
+--     filter_name q          the name of a filter, byte by byte
 use Rattle.std.specs.Prelude.{ℕ, ◌*◌, List, [], ◌∷◌, codes, Some, None, Ok, Err, Option, Result}
 use Rattle.cells.specs.Lattice.{Lattice}
 use Rattle.masks.specs.Cost.{filter_picks}
@@ -26,12 +26,6 @@ use Rattle.morphology.specs.declared.call.Call.{Call}
 use Rattle.morphology.specs.declared.call.Call.TheVariants.{Lay, Apply}
 use Rattle.morphology.specs.declared.call.Answer.{Answer}
 use Rattle.morphology.specs.declared.call.Answer.TheVariants.{Laid, Picks, Refused}
-
-abbrev pub filter_name : Filter → List ℕ
-filter_name Erode = codes "erode"
-filter_name Dilate = codes "dilate"
-filter_name Open = codes "open"
-filter_name Close = codes "close"
 
 -- what a worksheet holds
 pub record State (C : Type 0) : Type 0 where
@@ -65,22 +59,7 @@ abbrev pub sheet_by : {C : Type 0} → Lattice C → Filter → Result Mask Refu
 sheet_by k q (Ok m) f = filtered k q m f
 sheet_by k q (Err r) f = f
 
--- the answer by that verdict, for a sheet w wide and h high
-abbrev pub answer_by : Filter → Result Mask Refusal → ℕ → ℕ → Answer
-answer_by q (Ok m) w h = Picks (picks q m w h)
-answer_by q (Err r) w h = Refused r
-
--- the state after a call
-abbrev pub after : {C : Type 0} → Lattice C → Call → State C → State C
-after k (Lay m) s = record { sheet = s.sheet; mask = Some m }
-after k (Apply q n) s = record { sheet = sheet_by k q (verdict s n) s.sheet; mask = s.mask }
-
--- the answer to a call
-abbrev pub answer : {C : Type 0} → Call → State C → Answer
-answer (Lay m) s = Laid
-answer (Apply q n) s = answer_by q (verdict s n) s.sheet.width s.sheet.height
-
--- what a filter itself gives back by a verdict: its picks, or the refusal
+-- what it gives back by that verdict, for a sheet w wide and h high: its picks, or the refusal
 abbrev pub answered_by : Filter → Result Mask Refusal → ℕ → ℕ → Result ℕ Refusal
 answered_by q (Ok m) w h = Ok (picks q m w h)
 answered_by q (Err r) w h = Err r
@@ -92,6 +71,16 @@ answered q n s = answered_by q (verdict s n) s.sheet.width s.sheet.height
 abbrev pub reply : Result ℕ Refusal → Answer
 reply (Ok n) = Picks n
 reply (Err r) = Refused r
+
+-- the state after a call
+abbrev pub after : {C : Type 0} → Lattice C → Call → State C → State C
+after k (Lay m) s = record { sheet = s.sheet; mask = Some m }
+after k (Apply q n) s = record { sheet = sheet_by k q (verdict s n) s.sheet; mask = s.mask }
+
+-- the answer to a call
+abbrev pub answer : {C : Type 0} → Call → State C → Answer
+answer (Lay m) s = Laid
+answer (Apply q n) s = reply (answered q n s)
 
 -- the state after a list of calls, one after the other
 abbrev pub run : {C : Type 0} → Lattice C → List Call → State C → State C
@@ -107,3 +96,10 @@ answers k (c ∷ cs) s = answer c s ∷ answers k cs (after k c s)
 abbrev pub sheets_shown : {C : Type 0} → Lattice C → List Call → State C → List (Sheet C)
 sheets_shown k [] s = s.sheet ∷ []
 sheets_shown k (c ∷ cs) s = s.sheet ∷ sheets_shown k cs (after k c s)
+
+-- the name of a filter, byte by byte
+abbrev pub filter_name : Filter → List ℕ
+filter_name Erode = codes "erode"
+filter_name Dilate = codes "dilate"
+filter_name Open = codes "open"
+filter_name Close = codes "close"

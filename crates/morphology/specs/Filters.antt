@@ -42,11 +42,11 @@ eroded k ps f = gathered k ◌+ℤ◌ ps f
 abbrev pub dilated : {C : Type 0} → Lattice C → List Point → Sheet C → Sheet C
 dilated k ps f = gathered (dual k) ◌-ℤ◌ ps f
 
--- opening
+-- opening: an erosion, and then a dilation
 abbrev pub opened : {C : Type 0} → Lattice C → List Point → Sheet C → Sheet C
 opened k ps f = dilated k ps (eroded k ps f)
 
--- closing
+-- closing: a dilation, and then an erosion
 abbrev pub closed : {C : Type 0} → Lattice C → List Point → Sheet C → Sheet C
 closed k ps f = eroded k ps (dilated k ps f)
 

@@ -2,7 +2,8 @@
 --     Step                      a lay of the one mask, or a filter of a sort with a table of some length
 --     call m t                  the call that a step is, where m is the mask
 --     accepted k m ts s         the sorts of the filters that are not refused, in order
---     outcome by qs f           what they leave, by the first of them, the last, and whether both sorts are there
+--     standing qs               the name of what they leave, by the first of them, the last, and whether both sorts are there
+--     outcome by qs f           the sheet of that name
 --     four by q f               the four sheets that there can be, where q is the first sort
 --     FourSheets k              that this is so
 use Rattle.std.specs.Prelude.{◌≡◌, ℕ, Bool, true, false, cond, not, ◌||◌, List, [], ◌∷◌, map, Ok, Err, Result}
@@ -10,23 +11,16 @@ use Rattle.cells.specs.Lattice.{Lattice}
 use Rattle.masks.specs.Points.{Among}
 use Rattle.masks.specs.declared.mask.Mask.{Mask}
 use Rattle.sheets.specs.Sheet.{Sheet}
-use Rattle.morphology.specs.Calls.{State, new, filtered, verdict, after, run, sheets_shown}
+use Rattle.morphology.specs.Calls.{State, new, verdict, after, run, sheets_shown}
+use Rattle.morphology.specs.Standing.{filter_of, by_sort, named}
 use Rattle.morphology.specs.declared.refusal.Refusal.{Refusal}
 use Rattle.morphology.specs.declared.call.Filter.{Filter}
-use Rattle.morphology.specs.declared.call.Filter.TheVariants.{Open, Close}
 use Rattle.morphology.specs.declared.standing.Sort.{Sort}
 use Rattle.morphology.specs.declared.standing.Sort.TheVariants.{Opening, Closing}
+use Rattle.morphology.specs.declared.standing.Standing.{Standing}
+use Rattle.morphology.specs.declared.standing.Standing.TheVariants.{Loaded, Once, Twice, Thrice}
 use Rattle.morphology.specs.declared.call.Call.{Call}
 use Rattle.morphology.specs.declared.call.Call.TheVariants.{Lay, Apply}
-
--- the filter of a sort
-abbrev pub filter_of : Sort → Filter
-filter_of Opening = Open
-filter_of Closing = Close
-
--- what it makes of a sheet under the mask m
-abbrev pub by_sort : {C : Type 0} → Lattice C → Mask → Sort → Sheet C → Sheet C
-by_sort k m q = filtered k (filter_of q) m
 
 -- lay the one mask, or filter by a sort with a table of so many cells
 pub data Step : Type 0 where
@@ -54,11 +48,6 @@ abbrev pub last : Sort → List Sort → Sort
 last q [] = q
 last q (r ∷ rs) = last r rs
 
--- the other sort
-abbrev pub other : Sort → Sort
-other Opening = Closing
-other Closing = Opening
-
 -- whether two sorts are one
 abbrev pub same : Sort → Sort → Bool
 same Opening Opening = true
@@ -71,19 +60,27 @@ abbrev pub mixed : Sort → List Sort → Bool
 mixed q [] = false
 mixed q (r ∷ rs) = not (same q r) || mixed q rs
 
--- first and last differ: filtered by the first, then by the last. They are one sort: filtered once by it, or, where the
--- other sort comes between, by it, the other, and it again.
-abbrev pub by_ends : {S : Type 0} → (Sort → S → S) → Sort → Sort → Bool → S → S
-by_ends by a z mix f = cond (same a z) (cond mix (by a (by (other a) (by a f))) (by a f)) (by z (by a f))
+-- first and last are one sort: filtered once by it, or, where the other sort comes between, three times. They differ:
+-- filtered by the first, and then by the last.
+abbrev pub by_ends : Sort → Sort → Bool → Standing
+by_ends a z mix = cond (same a z) (cond mix (Thrice a) (Once a)) (Twice a)
 
--- no filter: the sheet stands
+-- no filter: the sheet stands as it was loaded
+abbrev pub standing : List Sort → Standing
+standing [] = Loaded
+standing (a ∷ qs) = by_ends a (last a qs) (mixed a qs)
+
+-- what filters of these sorts leave
 abbrev pub outcome : {S : Type 0} → (Sort → S → S) → List Sort → S → S
-outcome by [] f = f
-outcome by (a ∷ qs) f = by_ends by a (last a qs) (mixed a qs) f
+outcome by qs f = named by (standing qs) f
 
--- the loaded sheet, that filtered once, then by the other sort, then by the first again
+-- the names that there can be, where q is the first sort
+abbrev pub names : Sort → List Standing
+names q = Loaded ∷ Once q ∷ Twice q ∷ Thrice q ∷ []
+
+-- and their sheets
 abbrev pub four : {S : Type 0} → (Sort → S → S) → Sort → S → List S
-four by q f = f ∷ by q f ∷ by (other q) (by q f) ∷ by q (by (other q) (by q f)) ∷ []
+four by q f = map (λ n. named by n f) (names q)
 
 -- from a new worksheet, whatever the list and the lengths of the tables; the refused filters alter nothing
 pub record FourSheets {C : Type 0} (k : Lattice C) : Type 0 where

@@ -7,8 +7,8 @@ pub mod Find
 pub mod Refusals
 pub mod Calls
 pub mod Laws
-pub mod FourSheets
 pub mod Standing
+pub mod FourSheets
 pub mod Matching
 pub mod RowSheets
 pub mod Edge

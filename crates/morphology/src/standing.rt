@@ -1,7 +1,6 @@
 // Which sheet stands after openings and closings under one mask.
 ghost use Rattle.std.specs.Prelude.{◌≡◌};
-ghost use Rattle.morphology.specs.FourSheets.{filter_of, other as other_of};
-ghost use Rattle.morphology.specs.Standing.{Follows};
+ghost use Rattle.morphology.specs.Standing.{filter_of, other as other_of, Follows};
 
 use crate::call::Filter;
 use cells::kind::Kind;

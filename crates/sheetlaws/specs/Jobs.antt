@@ -12,7 +12,7 @@ use Rattle.masks.specs.declared.mask.Mask.{Mask}
 use Rattle.sheets.specs.Sheet.{shown}
 use Rattle.sheets.specs.Rows.{whole_rows}
 use Rattle.morphology.specs.Calls.{new, answers}
-use Rattle.morphology.specs.FourSheets.{filter_of}
+use Rattle.morphology.specs.Standing.{filter_of}
 use Rattle.morphology.specs.declared.call.Call.{Call}
 use Rattle.morphology.specs.declared.call.Call.TheVariants.{Lay, Apply}
 use Rattle.morphology.specs.declared.call.Answer.{Answer}

@@ -6,7 +6,7 @@
 use Rattle.std.specs.Prelude.{ℕ, List, [], ◌++◌, codes, Some, None, Option}
 use Rattle.std.specs.Fmt.{decimal}
 use Rattle.morphology.specs.Calls.{filter_name}
-use Rattle.morphology.specs.FourSheets.{filter_of, other}
+use Rattle.morphology.specs.Standing.{filter_of, other}
 use Rattle.morphology.specs.declared.standing.Sort.{Sort}
 use Rattle.morphology.specs.declared.standing.Sort.TheVariants.{Opening, Closing}
 use Rattle.morphology.specs.declared.standing.Standing.{Standing}

@@ -4,7 +4,8 @@ use Rattle.std.proofs.lemmas.List.{length-append, length-drop, length-take, take
 use Rattle.cells.specs.Lattice.{Lattice}
 use Rattle.sheets.specs.Sheet.{Sheet, shown}
 use Rattle.morphology.specs.Calls.{new, run}
-use Rattle.morphology.specs.FourSheets.{accepted, outcome, by_sort}
+use Rattle.morphology.specs.Standing.{by_sort}
+use Rattle.morphology.specs.FourSheets.{accepted, outcome}
 use Rattle.morphology.specs.Matching.{MatchingStates}
 use Rattle.morphology.specs.declared.call.Call.{Call}
 use Rattle.morphology.specs.declared.call.Answer.{Answer}

@@ -12,7 +12,8 @@ use Rattle.cells.specs.Lattice.{Lattice}
 use Rattle.masks.specs.declared.mask.Mask.{Mask}
 use Rattle.sheets.specs.Sheet.{Sheet}
 use Rattle.morphology.specs.Calls.{after, answer, run, answers}
-use Rattle.morphology.specs.FourSheets.{Step, call, accepted, outcome, by_sort}
+use Rattle.morphology.specs.Standing.{by_sort}
+use Rattle.morphology.specs.FourSheets.{Step, call, accepted, outcome}
 use Rattle.morphology.specs.declared.call.Call.{Call}
 use Rattle.morphology.specs.declared.call.Call.TheVariants.{Lay, Apply}
 use Rattle.morphology.specs.declared.call.Answer.{Answer}

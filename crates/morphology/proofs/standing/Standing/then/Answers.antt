@@ -1,8 +1,7 @@
 -- A filter done twice is a filter done once, and two in turn done twice are the two done once.
 use Rattle.std.proofs.Common.{◌≡◌, refl, sym, subst, inl, inr, rules}
 use Rattle.morphology.specs.declared.standing.Standing.TheVariants.{Once, Twice, Thrice}
-use Rattle.morphology.specs.FourSheets.{other, by_sort}
-use Rattle.morphology.specs.Standing.{Follows}
+use Rattle.morphology.specs.Standing.{other, by_sort, Follows}
 use Rattle.morphology.proofs.Runs.{twice, again}
 use Rattle.morphology.proofs.Standings.{told}
 use Rattle.morphology.proofs.standing.Standing.then.Goals as goal
