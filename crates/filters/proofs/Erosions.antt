@@ -16,20 +16,21 @@ use Rattle.morphology.proofs.Gathers.{gathered_width, gathered_height, gathered_
 use Rattle.plans.specs.declared.plan.Plan.{Plan}
 use Rattle.plans.specs.Plan.{chord_of, point_of, Spells}
 use Rattle.filters.specs.Side.{Best}
-use Rattle.filters.specs.Line.{place, UnderAt}
-use Rattle.filters.specs.Sweep.{Through, Mixed}
+use Rattle.filters.specs.Line.{place, UnderCell}
+use Rattle.filters.specs.Sweep.{Through}
 use Rattle.filters.proofs.Bests.{best_same, best_unique}
+use Rattle.filters.proofs.Rings.{Mixed}
 
 -- a meet over points is the greatest lower bound of the cells that they lead to
 meets_best : {C : Type 0} (k : Lattice C) (look : Point → Option C) (ps : List Point) → Best k (λ a. (p : Point) → Among ps p → Covers k a (look p)) (meets k (map look ps))
 meets_best k look ps a = (λ u p i. covers_trans k a _ (look p) u (meets_under k look ps p i), under_meets k look ps a)
 
 -- what a lies under, before and after the cells are read; a place without a cell stands as z
-under_covers : {K C : Type 0} (k : Lattice C) (f : K → C) (z a : C) (o : Option K) → UnderAt k f z a o → Covers k a (option_map f o)
+under_covers : {K C : Type 0} (k : Lattice C) (f : K → C) (z a : C) (o : Option K) → UnderCell k f z a o → Covers k a (option_map f o)
 under_covers k f z a None u = tt
 under_covers k f z a (Some c) u = u
 
-covers_under : {K C : Type 0} (k : Lattice C) (f : K → C) (z a : C) (o : Option K) → (z ≡ k.greatest) ⊎ (is_some (option_map f o) ≡ true) → Covers k a (option_map f o) → UnderAt k f z a o
+covers_under : {K C : Type 0} (k : Lattice C) (f : K → C) (z a : C) (o : Option K) → (z ≡ k.greatest) ⊎ (is_some (option_map f o) ≡ true) → Covers k a (option_map f o) → UnderCell k f z a o
 covers_under k f z a None (inl e) u = subst (Under k a) (sym e) (k.meet_greatest a)
 covers_under k f z a None (inr e) u = let no : true ≡ false = sym e in cc
 covers_under k f z a (Some c) h u = u

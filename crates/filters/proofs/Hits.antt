@@ -10,10 +10,10 @@ use Rattle.masks.specs.declared.point.Point.{Point}
 use Rattle.masks.proofs.Lists.{among_left, among_right, among_either, among_last, among_push}
 use Rattle.masks.proofs.Orders.{order_append}
 use Rattle.sheets.specs.Sheet.{Sheet}
-use Rattle.morphology.specs.Find.{Before, Hit, HitList}
+use Rattle.morphology.specs.Find.{Before, InRowOrder, Hit, HitList}
 use Rattle.morphology.specs.declared.place.Place.{Place}
 use Rattle.filters.specs.Side.{cell_at}
-use Rattle.filters.specs.Find.{RowHits, HitsAbove}
+use Rattle.filters.specs.Find.{RowHits}
 use Rattle.filters.proofs.Entries.{at_read}
 
 -- a place is its column and its row
@@ -62,6 +62,11 @@ module _ {K C : Type 0} (k : Lattice C) (f : K → C) (y : ℕ) (fores backs : L
         );
         order = R.order;
       }
+
+-- ps are the hits in the rows before y, in row order
+pub record HitsAbove {C : Type 0} (k : Lattice C) (fore back : List Point) (f : Sheet C) (y : ℕ) (ps : List Place) : Type 0 where
+  pub just : (p : Place) → Among ps p ↔ ((p.y < y) × Hit k fore back f p.x p.y)
+  pub order : InRowOrder ps
 
 -- one row more; w is its width, and its picks say where its hits are
 pub hits_more : {K C : Type 0} (k : Lattice C) (f : K → C) (fore back : List Point) (s : Sheet C) (y w : ℕ) (fores backs : List K) (ps qs : List Place) →

@@ -12,15 +12,15 @@ use Rattle.masks.specs.Cost.{line_picks}
 use Rattle.sheets.specs.Sheet.{Sheet}
 use Rattle.plans.specs.declared.plan.Plan.{Plan}
 use Rattle.plans.specs.Plan.{length_of}
-use Rattle.filters.specs.Line.{or_else, place, held, Runs, Holds}
+use Rattle.filters.specs.Line.{or_else, place, entry, Runs, Holds}
 use Rattle.filters.proofs.Entries.{at_part}
 use Rattle.filters.proofs.Bests.{best_same, best_at, best_runs}
 use Rattle.filters.proofs.Rooms.{part_room}
 
 -- one length more
 pub runs_more : {K C : Type 0} (k : Lattice C) (f : K → C) (G : ℕ → C → Type 0) (p : Plan) (w : ℕ) (old new : List K) (start i : ℕ) → 1 ≤ i → i < length p.lengths →
-    ((c : ℕ) → c < w + 30 + 1 - length_of p i → held k f new (start + i * (w + 30) + c) ≡ k.meet (held k f old (start + (i - 1) * (w + 30) + c)) (held k f old (start + (i - 1) * (w + 30) + c + (length_of p i - length_of p (i - 1))))) →
-    ((x : ℕ) → x < start + i * (w + 30) → held k f new x ≡ held k f old x) →
+    ((c : ℕ) → c < w + 30 + 1 - length_of p i → entry k f new (start + i * (w + 30) + c) ≡ k.meet (entry k f old (start + (i - 1) * (w + 30) + c)) (entry k f old (start + (i - 1) * (w + 30) + c + (length_of p i - length_of p (i - 1))))) →
+    ((x : ℕ) → x < start + i * (w + 30) → entry k f new x ≡ entry k f old x) →
     Runs k f G p w old start i → Runs k f G p w new start (i + 1)
 runs_more k f G p w old new start i i1 ip built kept R =
     below_more _ _
@@ -42,7 +42,7 @@ runs_more k f G p w old new start i i1 ip built kept R =
     let ex : start + (i - 1) * (w + 30) + c + d ≡ start + (i - 1) * (w + 30) + (c + d) = omega arith in
     best_at k _ _ _ (built c lc)
     (best_runs k G c d (length_of p (i - 1)) (length_of p i) _ _ dm en (R (i - 1) b c l1)
-    (best_at k _ _ _ (ap (held k f old) ex) (R (i - 1) b (c + d) l2))))
+    (best_at k _ _ _ (ap (entry k f old) ex) (R (i - 1) b (c + d) l2))))
 
 -- the same runs, said in another way
 pub runs_same : {K C : Type 0} (k : Lattice C) (f : K → C) (G G' : ℕ → C → Type 0) (p : Plan) (w : ℕ) (t : List K) (start n : ℕ) →
@@ -53,8 +53,8 @@ runs_same k f G G' p w t start n to from R i h c l =
 
 -- runs over a line that was loaded from the sheet
 pub runs_holds : {K C : Type 0} (k : Lattice C) (f : K → C) (z : C) (s : Sheet K) (p : Plan) (w : ℕ) (mid t : List K) (l : ℕ) →
-    ((i : ℕ) → i < w + 30 → held k f mid i ≡ or_else f z (place s p.above i l)) →
-    Runs k f (λ x a. Under k a (held k f mid x)) p w t 0 (length p.lengths) → Holds k f z s p w t 0 l
+    ((i : ℕ) → i < w + 30 → entry k f mid i ≡ or_else f z (place s p.above i l)) →
+    Runs k f (λ x a. Under k a (entry k f mid x)) p w t 0 (length p.lengths) → Holds k f z s p w t 0 l
 runs_holds k f z s p w mid t l e =
     runs_same k f _ _ p w t 0 (length p.lengths)
     (λ x a h u. subst (Under k a) (e x h) u)
@@ -67,7 +67,7 @@ holds_part k f z s p w table lines start l m room long H i h c lc =
     let in_slot = part_room i (length p.lengths) (w + 30) h in
     let low = p.sound.low i h in
     let e : start + i * (w + 30) + c ≡ start + (0 + i * (w + 30) + c) = omega arith in
-    best_at k _ _ _ (ap (held k f (put_mid start m table lines)) e ∙ at_part f k.greatest start m table lines room (0 + i * (w + 30) + c) (omega (arith, in_slot, low, long, lc))) (H i h c lc)
+    best_at k _ _ _ (ap (entry k f (put_mid start m table lines)) e ∙ at_part f k.greatest start m table lines room (0 + i * (w + 30) + c) (omega (arith, in_slot, low, long, lc))) (H i h c lc)
 
 -- the picks of a line, one length more
 pub picks_more : (w : ℕ) (xs : List ℕ) (i : ℕ) → 1 ≤ i → i < length xs → line_picks w (take (i + 1) xs) ≡ line_picks w (take i xs) + (w + 31 - get_or xs i 0)

@@ -1,5 +1,6 @@
 -- The ring of lines, and the sheet row by row.
-use Rattle.std.proofs.Common.{◌≡◌, ℕ, ◌+◌, ◌-◌, ◌*◌, ◌<◌, ◌≤◌, length, true, cond, ◌||◌, ltb, ◌≢◌, List, is_some, None, Option, sym, ap, ◌∙◌, subst, inl, inr, add-mul, arith}
+use Rattle.std.specs.Option.{option_map}
+use Rattle.std.proofs.Common.{◌≡◌, ℕ, ◌+◌, ◌-◌, ◌*◌, ◌<◌, ◌≤◌, length, true, cond, ◌||◌, ltb, ◌≢◌, List, is_some, Some, None, Option, sym, ap, ◌∙◌, subst, inl, inr, add-mul, arith}
 use Rattle.std.proofs.lemmas.Bool.{cases_lt, cases_eq}
 use Rattle.std.proofs.lemmas.Bool.Decides.{nat_tests}
 use Rattle.cells.specs.Lattice.{Lattice}
@@ -7,9 +8,9 @@ use Rattle.sheets.specs.Sheet.{Sheet, has, Whole}
 use Rattle.plans.specs.declared.plan.Plan.{Plan}
 use Rattle.plans.specs.Plan.{chord_of}
 use Rattle.filters.specs.Side.{Best}
-use Rattle.filters.specs.Line.{UnderAt, held, Holds, Beside}
+use Rattle.filters.specs.Line.{UnderCell, entry, Holds, Beside}
 use Rattle.filters.specs.Row.{slot_of, run_of, picked}
-use Rattle.filters.specs.Sweep.{Along, Through, ErodedAt, SameFrom, Mixed, InRing, next_slot}
+use Rattle.filters.specs.Sweep.{Along, Through, SameFrom, InRing, next_slot}
 use Rattle.filters.proofs.Bests.{best_same, best_at}
 use Rattle.filters.proofs.Picks.{picked_best}
 use Rattle.filters.proofs.Rooms.{part_room, slot_room}
@@ -31,7 +32,7 @@ slot_filling rows slot h = grind (arith, nat_tests)
 module _ {K C : Type 0} (k : Lattice C) (f : K → C) (z : C) (s : Sheet K) (p : Plan) (w : ℕ) where
   -- a line that no write touched
   holds_kept : (old new : List K) (start l : ℕ) →
-      ((x : ℕ) → start ≤ x → x < start + length p.lengths * (w + 30) → held k f new x ≡ held k f old x) → Holds k f z s p w old start l → Holds k f z s p w new start l
+      ((x : ℕ) → start ≤ x → x < start + length p.lengths * (w + 30) → entry k f new x ≡ entry k f old x) → Holds k f z s p w old start l → Holds k f z s p w new start l
   holds_kept old new start l kept H i h c m =
       let room = part_room i (length p.lengths) (w + 30) h in
       let low = p.sound.low i h in
@@ -52,8 +53,8 @@ module _ {K C : Type 0} (k : Lattice C) (f : K → C) (z : C) (s : Sheet K) (p :
   pub holds_sheet : (t : Sheet K) (table : List K) (start l y : ℕ) → SameFrom y s t → y ≤ l - p.above → Holds k f z t p w table start l → Holds k f z s p w table start l
   holds_sheet t table start l y left h =
       runs_same k f _ _ p w table start (length p.lengths)
-      (λ x a _ u. subst (UnderAt k f z a) (ap (λ (o : Option K). cond (ltb x 15 || ltb l p.above) None o) (left (x - 15) (l - p.above) h)) u)
-      (λ x a _ u. subst (UnderAt k f z a) (sym (ap (λ (o : Option K). cond (ltb x 15 || ltb l p.above) None o) (left (x - 15) (l - p.above) h))) u)
+      (λ x a _ u. subst (UnderCell k f z a) (ap (λ (o : Option K). cond (ltb x 15 || ltb l p.above) None o) (left (x - 15) (l - p.above) h)) u)
+      (λ x a _ u. subst (UnderCell k f z a) (sym (ap (λ (o : Option K). cond (ltb x 15 || ltb l p.above) None o) (left (x - 15) (l - p.above) h))) u)
 
   -- a line more, in the slot that is next
   pub ring_more : (old new : List K) (slot line n : ℕ) → slot < p.rows → n < p.rows →
@@ -106,7 +107,20 @@ module _ {K C : Type 0} (k : Lattice C) (f : K → C) (z : C) (s : Sheet K) (p :
       let er : l + p.rows - line ≡ ch.row = omega (arith, e) in
       let H = subst (λ (n : ℕ). Holds k f z s p w table (slot_of p.rows slot n * length p.lengths * (w + 30)) l) er (R l lt le) in
       let ix : (sl * length p.lengths + ch.index) * (w + 30) + ch.column + x ≡ sl * length p.lengths * (w + 30) + ch.index * (w + 30) + (ch.column + x) = omega (arith, add-mul (sl * length p.lengths) ch.index (w + 30)) in
-      best_at k _ _ _ (ap (held k f table) ix) (H ch.index wi.index (ch.column + x) (omega (arith, en)))))
+      best_at k _ _ _ (ap (entry k f table) ix) (H ch.index wi.index (ch.column + x) (omega (arith, en)))))
+
+-- o has the greatest lower bound of what the chords show at (x, y)
+abbrev pub ErodedAt : {K C : Type 0} → Lattice C → (K → C) → Sheet K → Plan → ℕ → ℕ → Option K → Type 0
+ErodedAt {K} {C} k f s p x y o = (m : C) × (option_map f o ≡ Some m) × Best k (Through k f k.greatest s p x y) m
+
+-- the rows of t, the sheet as it stands, that lie before y are results; the others are those of s, the sheet as it was
+-- found. Both have cells only before column w.
+pub record Mixed {K C : Type 0} (k : Lattice C) (f : K → C) (p : Plan) (w : ℕ) (s t : Sheet K) (y : ℕ) : Type 0 where
+  pub width : t.width ≡ s.width
+  pub height : t.height ≡ s.height
+  pub done : (x j : ℕ) → x < w → j < y → ErodedAt k f s p x j (t.cell x j)
+  pub left : SameFrom y s t
+  pub beside : (x j : ℕ) → w ≤ x → t.cell x j ≡ s.cell x j
 
 -- a row more
 pub mixed_more : {K C : Type 0} (k : Lattice C) (f : K → C) (p : Plan) (w : ℕ) (s t t' : Sheet K) (y y' : ℕ) → y' ≡ y + 1 → Mixed k f p w s t y →

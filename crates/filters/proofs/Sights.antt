@@ -12,7 +12,7 @@ use Rattle.morphology.proofs.Cells.{under_anti, under_flip}
 use Rattle.plans.specs.declared.plan.Plan.{Plan}
 use Rattle.plans.specs.Plan.{chord_of, Spells}
 use Rattle.filters.specs.Side.{Best, cell_at}
-use Rattle.filters.specs.Line.{place, UnderAt, held}
+use Rattle.filters.specs.Line.{place, UnderCell, entry}
 use Rattle.filters.specs.Sweep.{Through, Gathered}
 use Rattle.filters.proofs.Bests.{best_at}
 use Rattle.filters.proofs.Erosions.{point_place, best_meets}
@@ -30,7 +30,7 @@ module _ {C : Type 0} (k : Lattice C) where
   above_flip a b h = (under_flip k b a h.0, λ e. h.1 (sym e))
 
 -- a pick that is not the least cell was made of cells alone
-sees : {K C : Type 0} (k : Lattice C) (f : K → C) (m : C) (o : Option K) → (m ≡ k.least → ⊥) → UnderAt k f k.least m o → is_some (option_map f o) ≡ true
+sees : {K C : Type 0} (k : Lattice C) (f : K → C) (m : C) (o : Option K) → (m ≡ k.least → ⊥) → UnderCell k f k.least m o → is_some (option_map f o) ≡ true
 sees k f m None other u = absurd (other (under_anti k m k.least u (least_under k m)))
 sees k f m (Some c) other u = refl
 
@@ -82,7 +82,7 @@ has_inside f s W x y e =
 -- the two picks of a row say where its hits are
 pub row_says : {K C : Type 0} (k : Lattice C) (f : K → C) (s : Sheet K) (p q : Plan) (ps qs : List Point) → Spells p ps → Spells q qs → Whole s →
     (t r fores backs : List K) (a b w y : ℕ) → w ≡ s.width → y < s.height →
-    ((x : ℕ) → x < w → cell_at f k.least fores x ≡ held k f t (a + x)) → ((x : ℕ) → x < w → cell_at f k.greatest backs x ≡ held (dual k) f r (b + x)) →
+    ((x : ℕ) → x < w → cell_at f k.least fores x ≡ entry k f t (a + x)) → ((x : ℕ) → x < w → cell_at f k.greatest backs x ≡ entry (dual k) f r (b + x)) →
     Gathered k f k.least s p w t a y → Gathered (dual k) f k.greatest s q w r b y →
     (x : ℕ) → x < w → Above k (cell_at f k.least fores x) (cell_at f k.greatest backs x) ↔ Hit k ps qs (shown f s) x y
 row_says k f s p q ps qs P Q W t r fores backs a b w y ew hy F B G H x h =

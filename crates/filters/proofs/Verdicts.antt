@@ -9,7 +9,7 @@ use Rattle.masks.specs.Points.{turned}
 use Rattle.masks.specs.declared.mask.Mask.{Mask}
 use Rattle.masks.specs.declared.point.Point.{Point}
 use Rattle.sheets.specs.Sheet.{Sheet}
-use Rattle.morphology.specs.Calls.{sheet_by}
+use Rattle.morphology.specs.Calls.{sheet_by, answered_by}
 use Rattle.morphology.specs.Filters.{points_of}
 use Rattle.morphology.specs.Refusals.{fits, sized, by_table, and_then, judged, judged_find}
 use Rattle.morphology.specs.declared.call.Filter.TheVariants.{Erode, Dilate}
@@ -75,6 +75,11 @@ module _ {C : Type 0} (k : Lattice C) (m : Mask) (f : Sheet C) where
   pub dilated_verdict : {D : Type 0} (s : Sheet D) (n : ℕ) → eroded_by (verdict s m n) (dual k) (map turned (points_of m)) f ≡ sheet_by k Dilate (verdict s m n) f
   dilated_verdict s n =
       dilated_cases (fits s.width && fits s.height) (ltb n (table_cells m.rows s.width)) (ShortTable (table_cells m.rows s.width) n) (WrongSize (sized s.width s.height))
+
+-- a dilation makes as many picks as an erosion
+pub dilated_answer : (v : Result Mask Refusal) (w h : ℕ) → answered_by Erode v w h ≡ answered_by Dilate v w h
+dilated_answer (Ok m) w h = refl
+dilated_answer (Err r) w h = refl
 
 -- a find is judged by its fore mask, and then by its back mask
 find_cases : (b : Bool) (fores backs v : Result Mask Refusal) (r : Refusal) (m : Mask) → cond b fores (Err r) ≡ Ok m → cond b backs (Err r) ≡ v → and_then (cond b fores (Err r)) (λ _. backs) ≡ v

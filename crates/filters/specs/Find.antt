@@ -1,18 +1,15 @@
 -- What a find lists and answers.
 --     note n qs xs                 xs with the places qs written one after the other from n on, as far as xs goes
 --     RowHits k f y fs bs n qs     qs are the columns below n of row y in which the fore pick is strictly above the back pick
---     HitsAbove k fore back f y ps ps are the hits in the rows before y, in row order
 --     listed hits xs               xs with the earliest hits over its front, as far as it goes
---     found hits n                 the answer: how many hits there are, and the picks n
 --     Found k fore back f v xs xs' r   by the verdict v, xs' and r are the list and the answer that a find on f leaves
 use Rattle.std.specs.Prelude.{◌≡◌, ℕ, suc, ◌<◌, ◌↔◌, List, [], ◌∷◌, ◌++◌, length, take, drop, slice_set, Ok, Err, Result}
 use Rattle.cells.specs.Lattice.{Lattice, Above}
 use Rattle.masks.specs.Points.{Among}
 use Rattle.masks.specs.declared.mask.Mask.{Mask}
-use Rattle.masks.specs.declared.point.Point.{Point}
 use Rattle.sheets.specs.Sheet.{Sheet}
 use Rattle.morphology.specs.Filters.{points_of}
-use Rattle.morphology.specs.Find.{Hit, InRowOrder, HitList, find_picks}
+use Rattle.morphology.specs.Find.{InRowOrder, HitList, find_picks}
 use Rattle.morphology.specs.declared.place.Place.{Place}
 use Rattle.morphology.specs.declared.refusal.Refusal.{Refusal}
 use Rattle.filters.specs.Side.{cell_at}
@@ -27,20 +24,12 @@ pub record RowHits {K C : Type 0} (k : Lattice C) (f : K → C) (y : ℕ) (fores
   pub just : (p : Place) → Among qs p ↔ ((p.y ≡ y) × (p.x < n) × Above k (cell_at f k.least fores p.x) (cell_at f k.greatest backs p.x))
   pub order : InRowOrder qs
 
-pub record HitsAbove {C : Type 0} (k : Lattice C) (fore back : List Point) (f : Sheet C) (y : ℕ) (ps : List Place) : Type 0 where
-  pub just : (p : Place) → Among ps p ↔ ((p.y < y) × Hit k fore back f p.x p.y)
-  pub order : InRowOrder ps
-
 -- the rest of the list stays
 abbrev pub listed : List Place → List Place → List Place
 listed hits xs = take (length xs) hits ++ drop (length hits) xs
 
--- every hit is counted, also those that the list has no place for
-abbrev pub found : List Place → ℕ → ℕ × ℕ
-found hits n = (length hits, n)
-
--- where the verdict is a refusal, it is the answer, and the list stays
+-- every hit is counted, also those that the list has no place for; a refusal is the answer, and the list stays
 abbrev pub Found : {C : Type 0} → Lattice C → Mask → Mask → Sheet C → Result Mask Refusal → List Place → List Place → Result (ℕ × ℕ) Refusal → Type 0
 Found k fore back f (Ok m) xs xs' r =
-    (hits : List Place) × HitList k (points_of fore) (points_of back) f hits × (r ≡ Ok (found hits (find_picks fore back f.width f.height))) × (xs' ≡ listed hits xs)
+    (hits : List Place) × HitList k (points_of fore) (points_of back) f hits × (r ≡ Ok (length hits, find_picks fore back f.width f.height)) × (xs' ≡ listed hits xs)
 Found k fore back f (Err why) xs xs' r = (r ≡ Err why) × (xs' ≡ xs)

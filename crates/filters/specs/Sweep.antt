@@ -1,47 +1,32 @@
 -- What the sweep leaves in the sheet and in the table, row by row. Places without a cell stand as z.
 --     Along k f z s p x y q a       a lies under the cells that chord q shows at (x, y)
 --     Through k f z s p x y a       a lies under the cells that all chords show at (x, y)
---     ErodedAt k f s p x y o        o has the greatest lower bound of what the chords show at (x, y)
 --     SameFrom y s t                the sheets s and t are the same from row y on
---     Mixed k f p w s t y           the rows of t before y are results, the others are those of s
 --     next_slot rows slot           the slot after a slot of the ring
 --     InRing k f z s p w t slot line n  the last n lines before `line` stand in the ring, and `line` is due at `slot`
 --     Stands k f c s t slot line n  the same, by a course
 --     Gathered k f z s p w t start y  from start on, the table has what the chords show in row y
 --     Laid k f c s t start y        the same, by a course
-use Rattle.std.specs.Prelude.{◌≡◌, ℕ, ◌+◌, ◌-◌, ◌*◌, ◌<◌, ◌≤◌, cond, List, length, Some, Option, nat_lt}
-use Rattle.std.specs.Option.{option_map}
+use Rattle.std.specs.Prelude.{◌≡◌, ℕ, ◌+◌, ◌-◌, ◌*◌, ◌<◌, ◌≤◌, cond, List, length, nat_lt}
 use Rattle.cells.specs.Lattice.{Lattice}
 use Rattle.sheets.specs.Sheet.{Sheet}
 use Rattle.plans.specs.declared.plan.Plan.{Plan}
 use Rattle.plans.specs.Plan.{chord_of, long}
 use Rattle.filters.specs.declared.course.Course.{Course}
 use Rattle.filters.specs.Side.{Best}
-use Rattle.filters.specs.Line.{place, UnderAt, held, Holds}
+use Rattle.filters.specs.Line.{place, UnderCell, entry, Holds}
 use Rattle.filters.specs.Row.{slot_of}
 
 -- chord q, laid with the origin at (x, y)
 abbrev pub Along : {K C : Type 0} → Lattice C → (K → C) → C → Sheet K → Plan → ℕ → ℕ → ℕ → C → Type 0
 Along k f z s p x y q a =
-    (j : ℕ) → j < long p q → UnderAt k f z a (place s p.above ((chord_of p q).column + x + j) (y + (chord_of p q).row))
+    (j : ℕ) → j < long p q → UnderCell k f z a (place s p.above ((chord_of p q).column + x + j) (y + (chord_of p q).row))
 
 abbrev pub Through : {K C : Type 0} → Lattice C → (K → C) → C → Sheet K → Plan → ℕ → ℕ → C → Type 0
 Through k f z s p x y a = (q : ℕ) → q < length p.chords.items → Along k f z s p x y q a
 
--- a place of the result
-abbrev pub ErodedAt : {K C : Type 0} → Lattice C → (K → C) → Sheet K → Plan → ℕ → ℕ → Option K → Type 0
-ErodedAt {K} {C} k f s p x y o = (m : C) × (option_map f o ≡ Some m) × Best k (Through k f k.greatest s p x y) m
-
 abbrev pub SameFrom : {K : Type 0} → ℕ → Sheet K → Sheet K → Type 0
 SameFrom y s t = (x j : ℕ) → y ≤ j → t.cell x j ≡ s.cell x j
-
--- s is the sheet as it was found, t the sheet as it stands; both have cells only before column w
-pub record Mixed {K C : Type 0} (k : Lattice C) (f : K → C) (p : Plan) (w : ℕ) (s t : Sheet K) (y : ℕ) : Type 0 where
-  pub width : t.width ≡ s.width
-  pub height : t.height ≡ s.height
-  pub done : (x j : ℕ) → x < w → j < y → ErodedAt k f s p x j (t.cell x j)
-  pub left : SameFrom y s t
-  pub beside : (x j : ℕ) → w ≤ x → t.cell x j ≡ s.cell x j
 
 abbrev pub next_slot : ℕ → ℕ → ℕ
 next_slot rows slot = cond (nat_lt (slot + 1) rows) (slot + 1) 0
@@ -58,7 +43,7 @@ Stands k f c s table slot line n = InRing k f (f c.pad) s c.plan c.width table s
 
 -- entry x is the greatest lower bound of all that the chords show at (x, y)
 abbrev pub Gathered : {K C : Type 0} → Lattice C → (K → C) → C → Sheet K → Plan → ℕ → List K → ℕ → ℕ → Type 0
-Gathered k f z s p w table start y = (x : ℕ) → x < w → Best k (Through k f z s p x y) (held k f table (start + x))
+Gathered k f z s p w table start y = (x : ℕ) → x < w → Best k (Through k f z s p x y) (entry k f table (start + x))
 
 abbrev pub Laid : {K C : Type 0} → Lattice C → (K → C) → Course K → Sheet K → List K → ℕ → ℕ → Type 0
 Laid k f c s table start y = Gathered k f (f c.pad) s c.plan c.width table start y

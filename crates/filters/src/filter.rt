@@ -3,12 +3,12 @@ ghost use Rattle.std.specs.Prelude.{◌≡◌, ◌+◌, ◌*◌, ◌≤◌, List
 ghost use Rattle.masks.specs.declared.mask.Mask.{Mask};
 ghost use Rattle.masks.specs.declared.point.Point.{Point};
 ghost use Rattle.sheets.specs.Sheet.{shown};
-ghost use Rattle.morphology.specs.Calls.{sheet_by};
+ghost use Rattle.morphology.specs.Calls.{answered_by};
 ghost use Rattle.morphology.specs.Refusals.{judged};
 ghost use Rattle.morphology.specs.declared.call.Filter.TheVariants.{Erode, Dilate};
 ghost use Rattle.plans.specs.Plan.{PlanOf};
 ghost use Rattle.filters.specs.Side.{side};
-ghost use Rattle.filters.specs.Calls.{verdict, answered, eroded_by, WhereRefused};
+ghost use Rattle.filters.specs.Calls.{verdict, eroded_by, WhereRefused, Filtered};
 
 use crate::course::stride;
 use crate::side::{Joins, Meets, Side};
@@ -24,10 +24,7 @@ use sheets::holder::{Holder, Size};
 pub fn erode<H: Holder>(holder: &mut H, mask: &Mask, table: &mut [H::Cell]) -> Result<u64, Refusal>
 where
     H::Cell: Kind,
-    ensures answer { result ≡ answered (H.Holder.sheet holder.old) mask.now (length table.old) }
-    ensures after { shown H.Cell.Kind.means (H.Holder.sheet holder.new) ≡ sheet_by H.Cell.Kind.lattice Erode (verdict (H.Holder.sheet holder.old) mask.now (length table.old)) (shown H.Cell.Kind.means (H.Holder.sheet holder.old)) }
-    ensures refused { WhereRefused (verdict (H.Holder.sheet holder.old) mask.now (length table.old)) ((H.Holder.sheet holder.new ≡ H.Holder.sheet holder.old) × (table.new ≡ table.old)) }
-    ensures table { length table.new ≡ length table.old }
+    ensures { Filtered H.Cell.Kind.lattice H.Cell.Kind.means H.Holder.sheet Erode mask.now holder.old holder.new table.old table.new result }
 {
     filter::<H, Meets>(holder, Plan::of(mask), table)
 }
@@ -36,15 +33,12 @@ where
 pub fn dilate<H: Holder>(holder: &mut H, mask: &Mask, table: &mut [H::Cell]) -> Result<u64, Refusal>
 where
     H::Cell: Kind,
-    ensures answer { result ≡ answered (H.Holder.sheet holder.old) mask.now (length table.old) }
-    ensures after { shown H.Cell.Kind.means (H.Holder.sheet holder.new) ≡ sheet_by H.Cell.Kind.lattice Dilate (verdict (H.Holder.sheet holder.old) mask.now (length table.old)) (shown H.Cell.Kind.means (H.Holder.sheet holder.old)) }
-    ensures refused { WhereRefused (verdict (H.Holder.sheet holder.old) mask.now (length table.old)) ((H.Holder.sheet holder.new ≡ H.Holder.sheet holder.old) × (table.new ≡ table.old)) }
-    ensures table { length table.new ≡ length table.old }
+    ensures { Filtered H.Cell.Kind.lattice H.Cell.Kind.means H.Holder.sheet Dilate mask.now holder.old holder.new table.old table.new result }
 {
     filter::<H, Joins>(holder, Plan::of_turned(mask), table)
 }
 
-// Erodes the sheet on the side S, for any mask and points that the plan is for.
+// Erodes the sheet on the side S, for any mask and points that the plan is for. A dilation makes as many picks as an erosion.
 fn filter<H: Holder, S: Side>(
     holder: &mut H,
     plan: Plan,
@@ -52,7 +46,7 @@ fn filter<H: Holder, S: Side>(
 ) -> Result<u64, Refusal>
 where
     H::Cell: Kind,
-    ensures answer { (m : Mask) (ps : List Point) → PlanOf m.rows ps plan → result ≡ answered (H.Holder.sheet holder.old) m (length table.old) }
+    ensures answer { (m : Mask) (ps : List Point) → PlanOf m.rows ps plan → result ≡ answered_by Erode (verdict (H.Holder.sheet holder.old) m (length table.old)) (H.Holder.sheet holder.old).width (H.Holder.sheet holder.old).height }
     ensures after { (m : Mask) (ps : List Point) → PlanOf m.rows ps plan → shown H.Cell.Kind.means (H.Holder.sheet holder.new) ≡ eroded_by (verdict (H.Holder.sheet holder.old) m (length table.old)) (side S.Side.lower H.Cell.Kind.lattice) ps (shown H.Cell.Kind.means (H.Holder.sheet holder.old)) }
     ensures refused { (m : Mask) (ps : List Point) → PlanOf m.rows ps plan → WhereRefused (verdict (H.Holder.sheet holder.old) m (length table.old)) ((H.Holder.sheet holder.new ≡ H.Holder.sheet holder.old) × (table.new ≡ table.old)) }
 {

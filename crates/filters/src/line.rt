@@ -4,7 +4,7 @@ ghost use Rattle.std.specs.Prelude.{◌≡◌, ℕ, ◌+◌, ◌-◌, ◌*◌, �
 ghost use Rattle.cells.specs.Lattice.{Under};
 ghost use Rattle.masks.specs.Cost.{line_picks};
 ghost use Rattle.filters.specs.Side.{side, cell_at};
-ghost use Rattle.filters.specs.Line.{or_else, padded, place, held, Runs, Holds, Beside};
+ghost use Rattle.filters.specs.Line.{or_else, padded, place, entry, Runs, Holds, Beside};
 
 use crate::course::Course;
 use crate::side::Side;
@@ -89,7 +89,7 @@ fn build<K: Kind, S: Side>(course: &Course<K>, lines: &mut [K]) -> u64
     requires { length lines.old ≡ length course.now.plan.lengths * (course.now.width + 30) }
     ensures few { result ≤ 31 * 2078 }
     ensures picks { result ≡ line_picks course.now.width course.now.plan.lengths }
-    ensures runs { Runs (side S.Side.lower K.Kind.lattice) K.Kind.means (λ x a. Under (side S.Side.lower K.Kind.lattice) a (held (side S.Side.lower K.Kind.lattice) K.Kind.means lines.old x)) course.now.plan course.now.width lines.new 0 (length course.now.plan.lengths) }
+    ensures runs { Runs (side S.Side.lower K.Kind.lattice) K.Kind.means (λ x a. Under (side S.Side.lower K.Kind.lattice) a (entry (side S.Side.lower K.Kind.lattice) K.Kind.means lines.old x)) course.now.plan course.now.width lines.new 0 (length course.now.plan.lengths) }
 {
     let stride = course.stride();
     let lengths = course.plan.lengths.as_slice();

@@ -5,7 +5,7 @@ use Rattle.cells.specs.Lattice.{Lattice, dual}
 use Rattle.masks.specs.Cost.{filter_picks}
 use Rattle.masks.specs.declared.mask.Mask.{Mask}
 use Rattle.masks.proofs.CostBounds.{filter_picks_few}
-use Rattle.sheets.specs.Sheet.{Sheet, shown}
+use Rattle.sheets.specs.Sheet.{Sheet}
 use Rattle.morphology.specs.Calls.{State, filtered, picks, verdict, sheet_by, answered_by, answered, after}
 use Rattle.morphology.specs.Filters.{points_of}
 use Rattle.morphology.specs.Refusals.{fits, sized, by_mask, judged}
@@ -15,7 +15,7 @@ use Rattle.morphology.specs.declared.call.Filter.TheVariants.{Erode, Dilate, Ope
 use Rattle.morphology.specs.declared.refusal.Refusal.{Refusal}
 use Rattle.morphology.specs.declared.refusal.Refusal.TheVariants.{WrongSize}
 use Rattle.morphology.proofs.Gathers.{gathered_width, gathered_height}
-use Rattle.filters.specs.Calls.{answer_by, WhereRefused, answered as one_answered, verdict as one_verdict}
+use Rattle.filters.specs.Calls.{WhereRefused, Filtered}
 use Rattle.worksheets.specs.declared.worksheet.Worksheet.{Worksheet}
 use Rattle.worksheets.specs.Performed.{state, under, Performed}
 
@@ -48,24 +48,15 @@ pub record Halves (one two both : Filter) : Type 1 where
   pub one_picks : (m : Mask) (w h : ℕ) → picks one m w h ≡ filter_picks m.rows w h
   pub two_picks : (m : Mask) (w h : ℕ) → picks two m w h ≡ filter_picks m.rows w h
 
--- a filter of one pass, from what is promised of an erosion or a dilation
-module _ (q : Filter) (one : (m : Mask) (w h : ℕ) → picks q m w h ≡ filter_picks m.rows w h) where
-  one_answer : (v : Result Mask Refusal) (w h : ℕ) → answer_by v w h ≡ answered_by q v w h
-  one_answer (Ok m) w h = ap (λ n. Ok n) (sym (one m w h))
-  one_answer (Err r) w h = refl
-
-  pub one_pass : {K C S : Type 0} (k : Lattice C) (f : K → C) (sheet : S → Sheet K) (m : Mask) (h h' : S) (t t' : List K) (r : Result ℕ Refusal) →
-      r ≡ one_answered (sheet h) m (length t) →
-      shown f (sheet h') ≡ sheet_by k q (one_verdict (sheet h) m (length t)) (shown f (sheet h)) →
-      WhereRefused (one_verdict (sheet h) m (length t)) ((sheet h' ≡ sheet h) × (t' ≡ t)) → length t' ≡ length t →
-      Performed k f sheet q (under m h) (under m h') t t' r
-  one_pass k f sheet m h h' t t' r a e b l =
-      record {
-        answer = a ∙ one_answer (one_verdict (sheet h) m (length t)) (sheet h).width (sheet h).height;
-        after = ap (λ g. record { sheet = g; mask = Some m }) e;
-        refused = b;
-        table = l;
-      }
+-- a filter of a holder under a mask, told as one of the worksheet on which that mask lies
+pub one_pass : {K C S : Type 0} {k : Lattice C} {f : K → C} {sheet : S → Sheet K} {q : Filter} {m : Mask} {h h' : S} {t t' : List K} {r : Result ℕ Refusal} →
+    Filtered k f sheet q m h h' t t' r → Performed k f sheet q (under m h) (under m h') t t' r
+one_pass {m = m} F = record {
+  answer = F.answer;
+  after = ap (λ g. record { sheet = g; mask = Some m }) F.after;
+  refused = F.refused;
+  table = F.table;
+}
 
 double : (n : ℕ) → 2 * n ≡ n + n
 double n = omega arith
@@ -118,8 +109,8 @@ module _ {one two both : Filter} (H : Halves one two both) {C : Type 0} (k : Lat
       ap (λ v. answered_by two v (sheet_by k one (verdict s n) s.sheet).width (sheet_by k one (verdict s n) s.sheet).height) (same_verdict s n)
       ∙ same_answer (verdict s n) s.sheet
 
-module _ {one two both : Filter} (H : Halves one two both) {K C S : Type 0} (k : Lattice C) (f : K → C) (sheet : S → Sheet K) (w w1 w2 : Worksheet S) (t t1 t2 : List K) where
-  module _ (a : ℕ) (P : Performed k f sheet one w w1 t t1 (Ok a)) where
+module _ {one two both : Filter} (H : Halves one two both) {K C S : Type 0} {k : Lattice C} {f : K → C} {sheet : S → Sheet K} {w w1 : Worksheet S} {t t1 : List K} where
+  module _ {a : ℕ} (P : Performed k f sheet one w w1 t t1 (Ok a)) where
     first_mask : (m : Mask) × (verdict (state f sheet w) (length t) ≡ Ok m) × (a ≡ picks one m (sheet w.holder).width (sheet w.holder).height)
     first_mask = ok_mask one (sheet w.holder).width (sheet w.holder).height (verdict (state f sheet w) (length t)) a P.answer
 
@@ -129,15 +120,15 @@ module _ {one two both : Filter} (H : Halves one two both) {K C S : Type 0} (k :
         ∙ second_answer H k (state f sheet w) (length t)
 
     -- where the first pass goes ahead, so does the second
-    pub second_goes : (r : Refusal) → Performed k f sheet two w1 w2 t1 t2 (Err r) → ⊥
-    second_goes r Q =
+    pub second_goes : {w2 : Worksheet S} {t2 : List K} {r : Refusal} → Performed k f sheet two w1 w2 t1 t2 (Err r) → ⊥
+    second_goes {r} Q =
         let m = first_mask.0 in
         let e : Err r ≡ Ok (picks two m (sheet w.holder).width (sheet w.holder).height) =
         Q.answer ∙ second_answered ∙ ap (λ v. answered_by two v (sheet w.holder).width (sheet w.holder).height) first_mask.1 in
         let z : ◌≡◌ {A = ℕ} 0 1 = cc in
         omega arith
 
-    module _ (b : ℕ) (Q : Performed k f sheet two w1 w2 t1 t2 (Ok b)) where
+    module _ {w2 : Worksheet S} {t2 : List K} {b : ℕ} (Q : Performed k f sheet two w1 w2 t1 t2 (Ok b)) where
       second_picks : b ≡ picks two first_mask.0 (sheet w.holder).width (sheet w.holder).height
       second_picks =
           let e : Ok b ≡ Ok (picks two first_mask.0 (sheet w.holder).width (sheet w.holder).height) =

@@ -2,7 +2,9 @@
 use Rattle.std.proofs.Common.{◌≡◌, ℕ, ◌+◌, ◌-◌, ◌*◌, length, Some, Ok, sym, ap, ◌∙◌, ap₂}
 use Rattle.masks.specs.Cost.{line_picks}
 use Rattle.morphology.specs.Refusals.{judged}
-use Rattle.filters.specs.Calls.{verdict, answer_by}
+use Rattle.morphology.specs.Calls.{answered_by}
+use Rattle.morphology.specs.declared.call.Filter.TheVariants.{Erode}
+use Rattle.filters.specs.Calls.{verdict}
 use Rattle.filters.proofs.Verdicts.{plan_picks}
 use Rattle.filters.proofs.filter.filter.Goals as goal
 
@@ -18,4 +20,4 @@ returns-clause-answer g c = λ m ps P.
     (c.sweep.ensures.picks
     ∙ ap₂ (λ (w h : ℕ). (h + p.rows - 1) * line_picks w p.lengths + h * (w * (length p.chords.items - 1))) ew eh
     ∙ plan_picks m.rows ps p s.width s.height P)
-    ∙ sym (ap (λ v. answer_by v s.width s.height) goes)
+    ∙ sym (ap (λ v. answered_by Erode v s.width s.height) goes)

@@ -6,7 +6,7 @@ use Rattle.masks.specs.Cost.{line_picks}
 use Rattle.sheets.specs.Sheet.{shown}
 use Rattle.morphology.specs.declared.place.Place.{Place}
 use Rattle.filters.specs.Find.{RowHits, note}
-use Rattle.filters.specs.Line.{held}
+use Rattle.filters.specs.Line.{entry}
 use Rattle.filters.specs.declared.course.Course.{Course}
 use Rattle.filters.proofs.Courses.{Goes, goes_same, first_picks, row_picks, laid_gathered, row_long, row_cell, stands_first, stands_next}
 use Rattle.filters.proofs.Hits.{hits_more, hits_all}
@@ -108,8 +108,8 @@ loop-y-preserved g c =
             H.0 ++ L.0,
             hits_more k f ps qs (shown f s) y w fores backs H.0 L.0
                 (row_says k f s p q ps qs P Q (g.met.H.Holder.whole c.args.h.now) t r fores backs a b w y ew below
-                (λ x h. row_cell f k.least p w forth.new.self F t fores room c.row.ensures k.least k.greatest x h ∙ ap (λ (n : ℕ). held k f t (n + x)) at_a)
-                (λ x h. row_cell f k.greatest q w behind.new.self B r backs room' c.row-in-loop-y.ensures k.greatest k.least x h ∙ ap (λ (n : ℕ). held (dual k) f r (n + x)) at_b)
+                (λ x h. row_cell f k.least p w forth.new.self F t fores room c.row.ensures k.least k.greatest x h ∙ ap (λ (n : ℕ). entry k f t (n + x)) at_a)
+                (λ x h. row_cell f k.greatest q w behind.new.self B r backs room' c.row-in-loop-y.ensures k.greatest k.least x h ∙ ap (λ (n : ℕ). entry (dual k) f r (n + x)) at_b)
                 (laid_gathered f k.least p w fore I.2 k s t a y shown_fore.0) (laid_gathered f k.greatest q w back I.3 (dual k) s r b y shown_back.0))
                 (λ x h. let i = has_inside f s (g.met.H.Holder.whole c.args.h.now) x y h.on in omega (arith, i.0, ew)) H.1 R,
             L.2 ∙ ap (λ (n : ℕ). n + length L.0) H.2 ∙ sym (length-append H.0 L.0),

@@ -7,7 +7,8 @@ use Rattle.sheets.specs.Sheet.{shown}
 use Rattle.morphology.specs.declared.place.Place.{Place}
 use Rattle.plans.specs.Plan.{Spells}
 use Rattle.filters.specs.Sweep.{Stands}
-use Rattle.filters.specs.Find.{note, HitsAbove}
+use Rattle.filters.specs.Find.{note}
+use Rattle.filters.proofs.Hits.{HitsAbove}
 use Rattle.filters.proofs.Courses.{Goes}
 use Rattle.filters.proofs.find.scan.Given as goal
 

@@ -6,7 +6,7 @@ use Rattle.std.proofs.lemmas.List.{length_push}
 use Rattle.cells.specs.Lattice.{Under}
 use Rattle.plans.specs.Plan.{length_of}
 use Rattle.filters.specs.Side.{side}
-use Rattle.filters.specs.Line.{held, Runs}
+use Rattle.filters.specs.Line.{entry, Runs}
 use Rattle.filters.proofs.Rooms.{part_room, part_next}
 use Rattle.filters.proofs.Lines.{runs_more, picks_more, neighbours}
 use Rattle.filters.proofs.line.build.Goals as goal
@@ -83,13 +83,13 @@ loop-i-preserved g c =
     let this : (c.in-Some.i + 1) * stride ≡ (n + 1) * (w + 30) = ap₂ (λ (i m : ℕ). (i + 1) * m) here.0 c.stride-stride.ensures in
     let before : c.in-Some.i * stride ≡ (n + 1 - 1) * (w + 30) = ap₂ (λ (i m : ℕ). i * m) here.0 c.stride-stride.ensures ∙ ap (λ (i : ℕ). i * (w + 30)) (omega arith) in
     let picks : c.lengthen-picks.result ≡ w + 30 + 1 - length_of p (n + 1) = omega (arith, e.picks, longer, c.stride-stride.ensures) in
-    let made : Runs k f (λ x a. Under k a (held k f c.args.lines.now x)) p w new 0 (n + 1 + 1) =
-    runs_more k f (λ x a. Under k a (held k f c.args.lines.now x)) p w old new 0 (n + 1) one lt
+    let made : Runs k f (λ x a. Under k a (entry k f c.args.lines.now x)) p w new 0 (n + 1 + 1) =
+    runs_more k f (λ x a. Under k a (entry k f c.args.lines.now x)) p w old new 0 (n + 1) one lt
     (λ x h.
     let to : 0 + (n + 1) * (w + 30) + x ≡ (c.in-Some.i + 1) * stride + x = omega (arith, this) in
     let from : c.in-Some.i * stride + x ≡ 0 + (n + 1 - 1) * (w + 30) + x = omega (arith, before) in
     let apart : c.in-Some.i * stride + x + (c.in-Some.longer.now - c.in-Some.shorter.now) ≡ 0 + (n + 1 - 1) * (w + 30) + x + (length_of p (n + 1) - length_of p (n + 1 - 1)) = omega (arith, before, longer, shorter, last) in
-    ap (held k f new) to ∙ e.built k.greatest x (omega (arith, h, longer, c.stride-stride.ensures)) ∙ ap₂ k.meet (ap (held k f old) from) (ap (held k f old) apart))
+    ap (entry k f new) to ∙ e.built k.greatest x (omega (arith, h, longer, c.stride-stride.ensures)) ∙ ap₂ k.meet (ap (entry k f old) from) (ap (entry k f old) apart))
     (λ x h. e.beside.before k.greatest x (omega (arith, h, this))) c.loop-i.invariant.2 in
     rw (length_push c.loop-i.yielded (c.in-Some.i, (c.in-Some.shorter, c.in-Some.longer))) (
       omega (arith, picks, top, c.loop-i.invariant.0),

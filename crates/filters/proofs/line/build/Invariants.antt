@@ -3,11 +3,11 @@ use Rattle.std.proofs.Common.{◌≡◌, ◌+◌, ◌*◌, ◌≤◌, length, ta
 use Rattle.cells.specs.Lattice.{Under}
 use Rattle.masks.specs.Cost.{line_picks}
 use Rattle.filters.specs.Side.{side}
-use Rattle.filters.specs.Line.{held, Runs}
+use Rattle.filters.specs.Line.{entry, Runs}
 use Rattle.filters.proofs.line.build.Given as goal
 
 abbrev pub invariant-loop-i : goal.invariant-loop-i
 invariant-loop-i g l =
     (l.picks ≤ (length l.yielded + 1) * 2078) ×
     (l.picks ≡ line_picks l.course.width (take (length l.yielded + 1) l.course.plan.lengths)) ×
-    Runs (side g.S.Side.lower g.K.Kind.lattice) g.K.Kind.means (λ x a. Under (side g.S.Side.lower g.K.Kind.lattice) a (held (side g.S.Side.lower g.K.Kind.lattice) g.K.Kind.means l.initial.lines x)) l.course.plan l.course.width l.lines 0 (length l.yielded + 1)
+    Runs (side g.S.Side.lower g.K.Kind.lattice) g.K.Kind.means (λ x a. Under (side g.S.Side.lower g.K.Kind.lattice) a (entry (side g.S.Side.lower g.K.Kind.lattice) g.K.Kind.means l.initial.lines x)) l.course.plan l.course.width l.lines 0 (length l.yielded + 1)

@@ -2,7 +2,7 @@
 use Rattle.std.proofs.Common.{◌≡◌, ◌+◌, ◌≤◌, length, ap, ◌∙◌, arith, rules}
 use Rattle.std.proofs.lemmas.List.{places}
 use Rattle.filters.specs.Side.{side}
-use Rattle.filters.specs.Line.{held}
+use Rattle.filters.specs.Line.{entry}
 use Rattle.filters.proofs.Entries.{at_part}
 use Rattle.filters.proofs.Rooms.{part_room}
 use Rattle.filters.proofs.Lines.{runs_holds}
@@ -23,5 +23,5 @@ returns g c =
       few = c.build.ensures.few;
       picks = c.build.ensures.picks;
       holds = runs_holds k f (f c.args.course.now.pad) (g.H.Holder.sheet c.args.h.now) p w _ c.build.new.lines c.args.line
-          (λ i h. let e : i ≡ 0 + i = omega arith in ap (held k f _) e ∙ at_part f k.greatest 0 _ old line low i (omega (arith, n)) ∙ c.load_line.ensures k.greatest i (search (rules, places))) c.build.ensures.runs;
+          (λ i h. let e : i ≡ 0 + i = omega arith in ap (entry k f _) e ∙ at_part f k.greatest 0 _ old line low i (omega (arith, n)) ∙ c.load_line.ensures k.greatest i (search (rules, places))) c.build.ensures.runs;
     }

@@ -2,13 +2,12 @@
 use Rattle.std.proofs.Common.{◌≡◌, ℕ, ◌+◌, ◌-◌, ◌*◌, ◌≤◌, length, Some, refl, ap, ◌∙◌, subst, arith}
 use Rattle.masks.specs.Cost.{line_picks}
 use Rattle.filters.specs.Side.{side}
-use Rattle.filters.specs.Line.{held}
-use Rattle.filters.specs.Sweep.{Mixed}
+use Rattle.filters.specs.Line.{entry}
 use Rattle.filters.specs.declared.course.Course.{Course}
 use Rattle.filters.proofs.Courses.{Goes, goes_same, first_picks, row_picks, laid_gathered, row_long, row_cell, stands_first, stands_next}
 use Rattle.filters.proofs.Erosions.{mixed_eroded}
 use Rattle.filters.proofs.Rooms.{times_more, rows_picks}
-use Rattle.filters.proofs.Rings.{mixed_more, row_has}
+use Rattle.filters.proofs.Rings.{Mixed, mixed_more, row_has}
 use Rattle.filters.proofs.sweep.sweep.Goals as goal
 
 pub loop-y-init : goal.loop-y-init
@@ -79,8 +78,8 @@ loop-y-preserved g c =
       G,
       mixed_more k f p w s t t' y (y + 1) refl I.3 put.width put.height
           (λ x h. (
-            held k f new (start + x),
-            put.cells k.greatest x (omega (arith, long)) ∙ ap (λ v. Some v) (row x h ∙ ap (λ (n : ℕ). held k f new (n + x)) same),
+            entry k f new (start + x),
+            put.cells k.greatest x (omega (arith, long)) ∙ ap (λ v. Some v) (row x h ∙ ap (λ (n : ℕ). entry k f new (n + x)) same),
             laid_gathered f k.greatest p w course I.2 k s new start y both.0 x h,
           ))
           (λ i j h. put.beside i j (omega (arith, long))) put.rest,

@@ -2,9 +2,10 @@
 use Rattle.std.proofs.Common.{◌≡◌, ◌+◌, ◌-◌, ◌*◌, ◌≤◌, length}
 use Rattle.masks.specs.Cost.{line_picks}
 use Rattle.filters.specs.Side.{side}
-use Rattle.filters.specs.Sweep.{Mixed, Stands}
+use Rattle.filters.specs.Sweep.{Stands}
 use Rattle.filters.proofs.Courses.{Goes}
 use Rattle.filters.proofs.sweep.sweep.Given as goal
+use Rattle.filters.proofs.Rings.{Mixed}
 
 abbrev pub invariant-loop-y : goal.invariant-loop-y
 invariant-loop-y g l =

@@ -4,7 +4,7 @@ use Rattle.cells.specs.Lattice.{Lattice}
 use Rattle.sheets.specs.Sheet.{Sheet}
 use Rattle.filters.specs.declared.course.Course.{Course}
 use Rattle.filters.specs.Side.{side}
-use Rattle.filters.specs.Line.{held, Beside}
+use Rattle.filters.specs.Line.{entry, Beside}
 use Rattle.filters.specs.Row.{run_of, picked}
 use Rattle.filters.specs.Sweep.{next_slot, InRing, Stands, Laid}
 use Rattle.filters.proofs.Bests.{best_at}
@@ -19,7 +19,7 @@ Finished k f s new slot y c = Laid k f c s new (slot * length c.plan.lengths * (
 -- a full ring shows all that the row's chords do, and the row is laid over its oldest line
 finish : {K C : Type 0} (k : Lattice C) (f : K → C) (c : Course K) (s : Sheet K) (mid new : List K) (slot y : ℕ) → slot < c.plan.rows →
     InRing k f (f c.pad) s c.plan c.width mid slot (y + c.plan.rows) (c.plan.rows - 1 + 1) →
-    ((x : ℕ) → x < c.width → held k f new (slot * length c.plan.lengths * (c.width + 30) + x) ≡ picked k (run_of f k.greatest mid c.plan (c.width + 30) slot x) (length c.plan.chords.items - 1)) →
+    ((x : ℕ) → x < c.width → entry k f new (slot * length c.plan.lengths * (c.width + 30) + x) ≡ picked k (run_of f k.greatest mid c.plan (c.width + 30) slot x) (length c.plan.chords.items - 1)) →
     Beside f mid new (slot * length c.plan.lengths * (c.width + 30)) (slot * length c.plan.lengths * (c.width + 30) + c.width) →
     Finished k f s new slot y c
 finish k f c s mid new slot y in_ring R cells B =
