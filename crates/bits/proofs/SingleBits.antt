@@ -1,41 +1,33 @@
 -- A single bit of a number that was made from others bit by bit.
-use Rattle.std.proofs.Common.{◌≡◌, ℕ, zero, suc, ◌+◌, ◌-◌, ◌*◌, ◌/◌, ◌%◌, ◌^◌, ◌<◌, Bool, false, ◌&&◌, ◌||◌, eqb, ◌⊎◌, sym, refl, ap, ◌∙◌, inl, inr, arith}
+use Rattle.std.proofs.Common.{◌≡◌, ℕ, zero, suc, ◌+◌, ◌-◌, ◌*◌, ◌/◌, ◌%◌, ◌^◌, ◌<◌, Bool, true, false, ◌&&◌, ◌||◌, eqb, ◌⊎◌, sym, refl, ap, ◌∙◌, inl, inr, arith}
 use native.Mathlib.Nat.{zero-div, div-eq_of_lt}
 use lib.Bits.{bit_and, bit_or, and_shr, or_shr, and_mod, or_mod}
 use Rattle.std.proofs.lemmas.Nat.{pow_below, pow-add, shl-shr}
 use Rattle.std.proofs.lemmas.Bool.{cases_order, eq-eqb, ne_eqb}
 use Rattle.bits.specs.Bit.{bit, with_bit}
 
-both_one : (x y : ℕ) → x < 2 → y < 2 → eqb (bit_and x y) 1 ≡ (eqb x 1 && eqb y 1)
-both_one zero zero h l = refl
-both_one zero (suc zero) h l = refl
-both_one zero (suc (suc y)) h l = absurd (omega arith)
-both_one (suc zero) zero h l = refl
-both_one (suc zero) (suc zero) h l = refl
-both_one (suc zero) (suc (suc y)) h l = absurd (omega arith)
-both_one (suc (suc x)) y h l = absurd (omega arith)
-
-either_one : (x y : ℕ) → x < 2 → y < 2 → eqb (bit_or x y) 1 ≡ (eqb x 1 || eqb y 1)
-either_one zero zero h l = refl
-either_one zero (suc zero) h l = refl
-either_one zero (suc (suc y)) h l = absurd (omega arith)
-either_one (suc zero) zero h l = refl
-either_one (suc zero) (suc zero) h l = refl
-either_one (suc zero) (suc (suc y)) h l = absurd (omega arith)
-either_one (suc (suc x)) y h l = absurd (omega arith)
+-- two numbers that are single bits, taken together as two yes or no are
+single : (f : ℕ → ℕ → ℕ) (g : Bool → Bool → Bool) → eqb (f 0 0) 1 ≡ g false false → eqb (f 0 1) 1 ≡ g false true → eqb (f 1 0) 1 ≡ g true false → eqb (f 1 1) 1 ≡ g true true →
+    (x y : ℕ) → x < 2 → y < 2 → eqb (f x y) 1 ≡ g (eqb x 1) (eqb y 1)
+single f g p q r s zero zero h l = p
+single f g p q r s zero (suc zero) h l = q
+single f g p q r s (suc zero) zero h l = r
+single f g p q r s (suc zero) (suc zero) h l = s
+single f g p q r s x (suc (suc y)) h l = absurd (omega arith)
+single f g p q r s (suc (suc x)) y h l = absurd (omega arith)
 
 -- a bit of `a & b`, and of `a | b`
 pub bit_of_and : (i a b : ℕ) → bit i (bit_and a b) ≡ (bit i a && bit i b)
 bit_of_and i a b =
     ap (λ (n : ℕ). eqb (n % 2) 1) (and_shr a b i)
     ∙ ap (λ (n : ℕ). eqb n 1) (and_mod (a / 2 ^ i) (b / 2 ^ i) 1)
-    ∙ both_one (a / 2 ^ i % 2) (b / 2 ^ i % 2) (omega arith) (omega arith)
+    ∙ single bit_and ◌&&◌ refl refl refl refl (a / 2 ^ i % 2) (b / 2 ^ i % 2) (omega arith) (omega arith)
 
 pub bit_of_or : (i a b : ℕ) → bit i (bit_or a b) ≡ (bit i a || bit i b)
 bit_of_or i a b =
     ap (λ (n : ℕ). eqb (n % 2) 1) (or_shr a b i)
     ∙ ap (λ (n : ℕ). eqb n 1) (or_mod (a / 2 ^ i) (b / 2 ^ i) 1)
-    ∙ either_one (a / 2 ^ i % 2) (b / 2 ^ i % 2) (omega arith) (omega arith)
+    ∙ single bit_or ◌||◌ refl refl refl refl (a / 2 ^ i % 2) (b / 2 ^ i % 2) (omega arith) (omega arith)
 
 -- no bit of 0 is 1
 pub bit_zero : (i : ℕ) → bit i 0 ≡ false

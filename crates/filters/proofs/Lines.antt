@@ -1,6 +1,6 @@
 -- The lines of the table, length by length.
 use borrow.Rule.Slice.PartMut.{put_mid}
-use Rattle.std.proofs.Common.{◌≡◌, ℕ, ◌+◌, ◌-◌, ◌*◌, ◌<◌, ◌≤◌, List, [], ◌∷◌, length, get_or, take, drop, sum_by, sym, ap, ◌∙◌, subst, arith, below_more}
+use Rattle.std.proofs.Common.{◌≡◌, ℕ, ◌+◌, ◌-◌, ◌*◌, ◌<◌, ◌≤◌, List, [], ◌∷◌, length, get_or, take, drop, sum_by, sym, refl, ap, ◌∙◌, subst, arith, below_more}
 use Rattle.std.specs.List.{enumerate_from, zip}
 use Rattle.std.proofs.lemmas.Grind.{get_or_after_one, get_or_default_zero}
 use Rattle.std.proofs.lemmas.List.FromFn.{length-enumerate_from, get_or-enumerate_from}
@@ -78,7 +78,7 @@ picks_more w xs i h l =
     ∙ sum_by_push (λ a. w + 31 - a) (drop 1 (take i xs)) (get_or xs i 0)
 
 -- a length and the one after it, as they are gone through together
-pub neighbours : (xs : List ℕ) (m i x a b : ℕ) → m ≡ length xs - 1 → i < length (enumerate_from 0 (zip xs (take m (drop 1 xs)))) →
+neighbours : (xs : List ℕ) (m i x a b : ℕ) → m ≡ length xs - 1 → i < length (enumerate_from 0 (zip xs (take m (drop 1 xs)))) →
     ◌≡◌ {A = ℕ × (ℕ × ℕ)} (x, (a, b)) (get_or (enumerate_from 0 (zip xs (take m (drop 1 xs)))) i (x, (a, b))) →
     (x ≡ i) × (i + 1 < length xs) × (a ≡ get_or xs i 0) × (b ≡ get_or xs (i + 1) 0)
 neighbours xs m i x a b e h p =
@@ -100,3 +100,33 @@ neighbours xs m i x a b e h p =
       ap (λ (u : ℕ × (ℕ × ℕ)). u.1.0) q ∙ get_or_default_zero xs i a left,
       ap (λ (u : ℕ × (ℕ × ℕ)). u.1.1) q ∙ get_or-take m (drop 1 xs) i b room ∙ get_or_after_one xs i b ∙ ap (λ (k : ℕ). get_or xs k b) after ∙ get_or_default_zero xs (i + 1) b next,
     )
+
+-- a turn has length n and the one after it, which the plan says to be longer
+pub record Turn (p : Plan) (n i shorter longer : ℕ) : Type 0 where
+  pub here : i ≡ n
+  pub within : n + 1 < length p.lengths
+  pub one : 1 ≤ n + 1
+  pub back : length_of p (n + 1 - 1) ≡ length_of p n
+  pub shorter_is : shorter ≡ length_of p n
+  pub longer_is : longer ≡ length_of p (n + 1)
+  pub up : length_of p (n + 1 - 1) < length_of p (n + 1)
+  pub top : length_of p (n + 1) ≤ 31
+  pub low : 1 ≤ length_of p n
+
+pub turn : (p : Plan) (lens : List ℕ) → lens ≡ p.lengths → (n i a b : ℕ) → n < length (enumerate_from 0 (zip lens (take (length lens - 1) (drop 1 lens)))) →
+    ◌≡◌ {A = ℕ × (ℕ × ℕ)} (i, (a, b)) (get_or (enumerate_from 0 (zip lens (take (length lens - 1) (drop 1 lens)))) n (i, (a, b))) → Turn p n i a b
+turn p lens items n i a b e h =
+    let N = neighbours lens (length lens - 1) n i a b refl e h in
+    let within : n + 1 < length p.lengths = omega (arith, N.1, ap length items) in
+    let one : 1 ≤ n + 1 = omega arith in
+    record {
+      here = N.0;
+      within = within;
+      one = one;
+      back = ap (length_of p) (omega arith);
+      shorter_is = N.2 ∙ ap (λ (l : List ℕ). get_or l n 0) items;
+      longer_is = N.3 ∙ ap (λ (l : List ℕ). get_or l (n + 1) 0) items;
+      up = p.sound.climbs (n + 1) one within;
+      top = p.sound.top (n + 1) within;
+      low = p.sound.low n (omega arith);
+    }

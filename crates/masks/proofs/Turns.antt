@@ -84,25 +84,22 @@ module _ (rows out : List ℕ) (T : Turned rows out) where
       let ex : x ≡ pos (30 - q.1) = omega (arith, ints, f, q.3, hr) in
       ap₂ (marked_at rows) ey ex ∙ sym (turned_marked q.0 q.1 hc hr) ∙ q.4
 
-  turned_from : (z w y x : ℤ) → z +ℤ y ≡ pos 30 → w +ℤ x ≡ pos 30 → marked_at rows y x ≡ true → marked_at out z w ≡ true
-  turned_from z w y x e f h =
-      let q = held_at rows y x h in
-      let hc = marked_column rows q.0 q.1 q.4 in
-      let hr = marked_row rows q.0 q.1 q.4 in
-      let ez : z ≡ pos (30 - q.0) = omega (arith, ints, e, q.2, hc) in
-      let ew : w ≡ pos (30 - q.1) = omega (arith, ints, f, q.3, hr) in
-      let bc : 30 - (30 - q.0) ≡ q.0 = omega (arith, hc) in
-      let br : 30 - (30 - q.1) ≡ q.1 = omega (arith, hr) in
-      ap₂ (marked_at out) ez ew ∙ turned_marked (30 - q.0) (30 - q.1) (omega arith) (omega arith) ∙ ap₂ (marked rows) bc br ∙ q.4
+-- what is turned is turned back by turning it
+turned_back : (rows out : List ℕ) → Turned rows out → Turned out rows
+turned_back rows out T r c hr hc =
+    let er : 30 - (30 - r) ≡ r = omega arith in
+    let ec : 30 - (30 - c) ≡ c = omega arith in
+    sym (T (30 - r) (30 - c) (omega arith) (omega arith) ∙ ap₂ (λ (i j : ℕ). bit i (get_or rows j 0)) ec er)
 
+module _ (rows out : List ℕ) (T : Turned rows out) where
   -- a point is held where the one on the other side was
   pub turned_holds : (p : Point) → holds out p ≡ holds rows (turned p)
   turned_holds p =
       let e : (p.u +ℤ pos 15) +ℤ (neg_ℤ p.u +ℤ pos 15) ≡ pos 30 = omega (arith, ints) in
       let f : (p.v +ℤ pos 15) +ℤ (neg_ℤ p.v +ℤ pos 15) ≡ pos 30 = omega (arith, ints) in
       both_true (holds out p) (holds rows (turned p))
-      (turned_to (p.u +ℤ pos 15) (p.v +ℤ pos 15) (neg_ℤ p.u +ℤ pos 15) (neg_ℤ p.v +ℤ pos 15) e f)
-      (turned_from (p.u +ℤ pos 15) (p.v +ℤ pos 15) (neg_ℤ p.u +ℤ pos 15) (neg_ℤ p.v +ℤ pos 15) e f)
+      (turned_to rows out T (p.u +ℤ pos 15) (p.v +ℤ pos 15) (neg_ℤ p.u +ℤ pos 15) (neg_ℤ p.v +ℤ pos 15) e f)
+      (turned_to out rows (turned_back rows out T) (neg_ℤ p.u +ℤ pos 15) (neg_ℤ p.v +ℤ pos 15) (p.u +ℤ pos 15) (p.v +ℤ pos 15) (omega (arith, ints)) (omega (arith, ints)))
 
   -- so that where there was a point there is one
   pub turned_some : (points rows 31 ≡ [] → ⊥) → points out 31 ≡ [] → ⊥
