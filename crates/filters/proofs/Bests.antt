@@ -1,7 +1,7 @@
 -- Greatest lower bounds: there is one at most, and the pick of two bounds is that of both.
 use Rattle.std.proofs.Common.{◌≡◌, ℕ, ◌+◌, ◌-◌, ◌<◌, ◌≤◌, sym, subst, inl, inr, arith}
 use Rattle.std.proofs.lemmas.Bool.{cases_lt}
-use Rattle.cells.specs.Lattice.{Lattice, Under}
+use Rattle.cells.specs.Lattice.{Lattice}
 use Rattle.morphology.proofs.Cells.{under_trans, under_anti, meet_left, meet_right, meet_both}
 use Rattle.filters.specs.Side.{Best}
 
@@ -17,9 +17,6 @@ module _ {C : Type 0} (k : Lattice C) where
 
   pub best_same : (S T : C → Type 0) (m : C) → ((a : C) → S a → T a) → ((a : C) → T a → S a) → Best k S m → Best k T m
   best_same S T m f g p a = (λ u. f a ((p a).0 u), λ t. (p a).1 (g a t))
-
-  pub best_one : (m : C) → Best k (λ a. Under k a m) m
-  best_one m a = (λ u. u, λ u. u)
 
   pub best_at : (S : C → Type 0) (m n : C) → m ≡ n → Best k S n → Best k S m
   best_at S m n e p = subst (Best k S) (sym e) p

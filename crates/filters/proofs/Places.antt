@@ -1,8 +1,8 @@
 -- Puts and places: what a put leaves where, and what a padded row shows.
-use Rattle.std.proofs.Common.{◌≡◌, ℕ, ◌+◌, ◌-◌, ◌<◌, ◌≤◌, true, ◌≢◌, Some, arith}
+use Rattle.std.proofs.Common.{◌≡◌, ℕ, ◌+◌, ◌-◌, ◌<◌, true, ◌≢◌, Some, arith}
 use Rattle.std.proofs.lemmas.Bool.Decides.{nat_tests}
 use Rattle.sheets.specs.Sheet.{Sheet, has, put_at}
-use Rattle.filters.specs.Line.{or_else, padded, place}
+use Rattle.filters.specs.Line.{or_else, padded}
 
 module _ {C : Type 0} (s : Sheet C) (x y : ℕ) (c : C) where
   pub put_here : has s x y ≡ true → (put_at s x y c).cell x y ≡ Some c
@@ -24,10 +24,3 @@ module _ {K C : Type 0} (f : K → C) (z : C) (s : Sheet K) where
 
   pub cell_column : (y x : ℕ) → padded f z s y (15 + x) ≡ or_else f z (s.cell x y)
   cell_column y x = let e : 15 + x - 15 ≡ x = omega arith in grind (arith, nat_tests, e)
-
-  -- a line from the first row on, and a line above it
-  pub place_row : (above i l : ℕ) → above ≤ l → padded f z s (l - above) i ≡ or_else f z (place s above i l)
-  place_row above i l h = grind (arith, nat_tests)
-
-  pub place_none : (above i l : ℕ) → l < above → z ≡ or_else f z (place s above i l)
-  place_none above i l h = grind (arith, nat_tests)

@@ -3,7 +3,7 @@
 --     RowHits k f y fs bs n qs     qs are the columns below n of row y in which the fore pick is strictly above the back pick
 --     listed hits xs               xs with the earliest hits over its front, as far as it goes
 --     Found k fore back f v xs xs' r   by the verdict v, xs' and r are the list and the answer that a find on f leaves
-use Rattle.std.specs.Prelude.{◌≡◌, ℕ, suc, ◌<◌, ◌↔◌, List, [], ◌∷◌, ◌++◌, length, take, drop, slice_set, Ok, Err, Result}
+use Rattle.std.specs.Prelude.{◌≡◌, ℕ, suc, ◌<◌, ◌↔◌, List, [], ◌∷◌, length, take, slice_set, Ok, Err, Result}
 use Rattle.cells.specs.Lattice.{Lattice, Above}
 use Rattle.masks.specs.Points.{Among}
 use Rattle.masks.specs.declared.mask.Mask.{Mask}
@@ -13,6 +13,7 @@ use Rattle.morphology.specs.Find.{InRowOrder, HitList, find_picks}
 use Rattle.morphology.specs.declared.place.Place.{Place}
 use Rattle.morphology.specs.declared.refusal.Refusal.{Refusal}
 use Rattle.filters.specs.Side.{cell_at}
+use Rattle.filters.specs.Lists.{written}
 
 -- a place past the end is not written
 abbrev pub note : ℕ → List Place → List Place → List Place
@@ -24,9 +25,9 @@ pub record RowHits {K C : Type 0} (k : Lattice C) (f : K → C) (y : ℕ) (fores
   pub just : (p : Place) → Among qs p ↔ ((p.y ≡ y) × (p.x < n) × Above k (cell_at f k.least fores p.x) (cell_at f k.greatest backs p.x))
   pub order : InRowOrder qs
 
--- the rest of the list stays
+-- as many of them as the list has places
 abbrev pub listed : List Place → List Place → List Place
-listed hits xs = take (length xs) hits ++ drop (length hits) xs
+listed hits xs = written (take (length xs) hits) xs
 
 -- every hit is counted, also those that the list has no place for; a refusal is the answer, and the list stays
 abbrev pub Found : {C : Type 0} → Lattice C → Mask → Mask → Sheet C → Result Mask Refusal → List Place → List Place → Result (ℕ × ℕ) Refusal → Type 0

@@ -4,4 +4,5 @@ pub mod Line
 pub mod Row
 pub mod Sweep
 pub mod Calls
+pub mod Lists
 pub mod Find

@@ -15,7 +15,7 @@ use Rattle.masks.specs.Cost.{farthest, northmost, southmost, spanned}
 use Rattle.std.specs.Int.{int_min, int_max}
 use Rattle.masks.proofs.Extremes.{northmost_same, southmost_same}
 use Rattle.masks.proofs.Lists.{all_among, some_among, among_kept, kept_among, among_map, map_among, among_joined, joined_among, among_counting, kept_push, joined_counting_push}
-use Rattle.masks.proofs.Grids.{held_at, held_among, among_held, holds_marked, marked_column, marked_row, grid_order}
+use Rattle.masks.proofs.Grids.{same_point, held_at, held_among, among_held, holds_marked, marked_column, marked_row, grid_order}
 
 -- the longest front of consecutive numbers that pass
 leading_is : (p : ℕ → Bool) (n m c : ℕ) → n ≤ m → ((j : ℕ) → j < n → p (c + j) ≡ true) → (n < m → p (c + n) ≡ false) → prefix_len p (range_with_len c m) ≡ n
@@ -283,24 +283,35 @@ module _ (rows : List ℕ) where
       (chord_at rows q.1 k.0, k.3)
 
   -- the rows that have points are those that have chords
-  point_chord : (p : Point) → Among (points rows 31) p → (ch : Chord) × Among (chords rows 31) ch × (p.v ≡ ch.v)
+
+  -- each point of a chord is one of the mask's
+  pub chord_point : (ch : Chord) → Among (chords rows 31) ch → (j : ℕ) → j < ch.length → Among (points rows 31) (record { u = ch.start +ℤ pos j; v = ch.v })
+  chord_point ch i j h = held_among rows (record { u = ch.start +ℤ pos j; v = ch.v }) ((among_chord ch i).points j h)
+
+  -- each point of the mask is one of some chord
+  pub point_chord : (p : Point) → Among (points rows 31) p → (ch : Chord) × (j : ℕ) × Among (chords rows 31) ch × (j < ch.length) × (p ≡ record { u = ch.start +ℤ pos j; v = ch.v })
   point_chord p i =
       let q = held_at rows (p.u +ℤ pos 15) (p.v +ℤ pos 15) (among_held rows p i) in
-      let k = covering q.0 q.1 q.4 in
-      (chord_at rows q.1 k.0, k.3, omega (arith, ints, q.3))
+      let c = q.0 in
+      let r = q.1 in
+      let k = covering c r q.4 in
+      let j : ℕ = c - k.0 in
+      let e : p.u ≡ (pos k.0 -ℤ pos 15) +ℤ pos j = omega (arith, ints, q.2, k.1) in
+      let f : p.v ≡ pos r -ℤ pos 15 = omega (arith, ints, q.3) in
+      (chord_at rows r k.0, j, k.3, omega (arith, k.1, k.2), same_point p (record { u = (pos k.0 -ℤ pos 15) +ℤ pos j; v = pos r -ℤ pos 15 }) e f)
 
-  chord_point : (ch : Chord) → Among (chords rows 31) ch → (p : Point) × Among (points rows 31) p × (ch.v ≡ p.v)
-  chord_point ch i =
-      let R = among_chord ch i in
-      let p : Point = record { u = ch.start +ℤ pos 0; v = ch.v } in
-      (p, held_among rows p (R.points 0 R.some), refl)
+  row_point : (ch : Chord) → Among (chords rows 31) ch → (p : Point) × Among (points rows 31) p × (ch.v ≡ p.v)
+  row_point ch i = (record { u = ch.start +ℤ pos 0; v = ch.v }, chord_point ch i 0 (among_chord ch i).some, refl)
+
+  row_chord : (p : Point) → Among (points rows 31) p → (ch : Chord) × Among (chords rows 31) ch × (p.v ≡ ch.v)
+  row_chord p i = let k = point_chord p i in (k.0, k.2, ap (λ (q : Point). q.v) k.4)
 
   -- so the farthest chords lie where the farthest points do
   pub northmost_chord : farthest int_min (λ ch. ch.v) (chords rows 31) ≡ northmost (points rows 31)
-  northmost_chord = northmost_same (λ ch. ch.v) (λ p. p.v) (chords rows 31) (points rows 31) chord_point point_chord
+  northmost_chord = northmost_same (λ ch. ch.v) (λ p. p.v) (chords rows 31) (points rows 31) row_point row_chord
 
   pub southmost_chord : farthest int_max (λ ch. ch.v) (chords rows 31) ≡ southmost (points rows 31)
-  southmost_chord = southmost_same (λ ch. ch.v) (λ p. p.v) (chords rows 31) (points rows 31) chord_point point_chord
+  southmost_chord = southmost_same (λ ch. ch.v) (λ p. p.v) (chords rows 31) (points rows 31) row_point row_chord
 
 pub spanned_some : (rows : List ℕ) → 1 ≤ spanned rows
 unfolding spanned

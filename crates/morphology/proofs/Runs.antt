@@ -1,5 +1,5 @@
 -- A list of calls with one mask does the word of its accepted filters.
-use Rattle.std.proofs.Common.{◌≡◌, ℕ, Bool, true, false, cond, ◌&&◌, ltb, List, [], ◌∷◌, map, Some, None, Ok, Err, Option, Result, sym, refl, ap, ◌∙◌, subst, inl, inr}
+use Rattle.std.proofs.Common.{◌≡◌, ℕ, Bool, true, false, cond, ◌&&◌, ltb, List, [], ◌∷◌, map, length, suc, Some, None, Ok, Err, Option, Result, sym, refl, ap, ◌∙◌, subst, inl, inr}
 use Rattle.cells.specs.Lattice.{Lattice}
 use Rattle.masks.specs.Cost.{table_cells}
 use Rattle.masks.specs.Points.{Among}
@@ -7,16 +7,22 @@ use Rattle.masks.specs.declared.mask.Mask.{Mask}
 use Rattle.sheets.specs.Sheet.{Sheet}
 use Rattle.morphology.specs.Filters.{points_of}
 use Rattle.morphology.specs.Refusals.{fits, sized, by_mask}
-use Rattle.morphology.specs.Calls.{State, new, filtered, verdict, sheet_by, after, run, sheets_shown}
+use Rattle.morphology.specs.Calls.{State, new, filtered, verdict, sheet_by, after, run, answers, sheets_shown}
 use Rattle.morphology.specs.declared.standing.Sort.{Sort}
 use Rattle.morphology.specs.declared.standing.Sort.TheVariants.{Opening, Closing}
 use Rattle.morphology.specs.Standing.{filter_of, by_sort, other}
 use Rattle.morphology.specs.FourSheets.{Step, LayMask, ApplySort, call, counted, accepted, four, FourSheets}
 use Rattle.morphology.specs.declared.refusal.Refusal.{Refusal}
 use Rattle.morphology.specs.declared.refusal.Refusal.TheVariants.{WrongSize, ShortTable}
+use Rattle.morphology.specs.declared.call.Call.{Call}
 use Rattle.morphology.specs.declared.call.Call.TheVariants.{Lay, Apply}
 use Rattle.morphology.proofs.Words.{through, through_outcome, through_among}
 use Rattle.morphology.proofs.Sheets.{openings, close_open, open_close}
+
+-- each call has an answer
+pub answers_long : {C : Type 0} (k : Lattice C) (cs : List Call) (s : State C) → length (answers k cs s) ≡ length cs
+answers_long k [] s = refl
+answers_long k (c ∷ cs) s = ap suc (answers_long k cs (after k c s))
 
 -- no mask but m lies
 abbrev Laid : Mask → Option Mask → Type 0

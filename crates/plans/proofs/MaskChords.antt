@@ -1,13 +1,11 @@
 -- What is known of the chords of a mask: where they lie, and which points they have.
-use Rattle.std.proofs.Common.{◌≡◌, ℕ, ◌+◌, ◌-◌, ◌<◌, ◌≤◌, List, pos, ◌+ℤ◌, ◌-ℤ◌, arith}
+use Rattle.std.proofs.Common.{◌≡◌, ℕ, ◌+◌, ◌-◌, ◌<◌, ◌≤◌, List, pos, ◌+ℤ◌, arith}
 use Rattle.std.proofs.lemmas.Int.{ints}
 use Rattle.masks.specs.Points.{Among}
-use Rattle.masks.specs.Rows.{points}
-use Rattle.masks.specs.Chords.{chords, chord_at, IsChord}
-use Rattle.masks.specs.declared.point.Point.{Point}
+use Rattle.masks.specs.Chords.{chords, IsChord}
 use Rattle.masks.specs.declared.chord.Chord.{Chord}
-use Rattle.masks.proofs.Grids.{same_point, held_at, held_among, among_held, marked_column, marked_row}
-use Rattle.masks.proofs.Runs.{all_runs, covering}
+use Rattle.masks.proofs.Grids.{held_at, marked_column, marked_row}
+use Rattle.masks.proofs.Runs.{all_runs}
 
 -- the chord starts in a column and a row of the grid, and ends in the grid
 pub record Lies (ch : Chord) : Type 0 where
@@ -43,19 +41,3 @@ module _ (ws : List ℕ) where
         some = R.some;
         ends = omega (arith, ints, a.2, b.2, b.4, R.some);
       }
-
-  -- each point of a chord is one of the mask's
-  pub chord_point : (ch : Chord) → Among (chords ws 31) ch → (j : ℕ) → j < ch.length → Among (points ws 31) (record { u = ch.start +ℤ pos j; v = ch.v })
-  chord_point ch i j h = held_among ws (record { u = ch.start +ℤ pos j; v = ch.v }) ((run_of ch i).points j h)
-
-  -- each point of the mask is one of some chord
-  pub point_chord : (p : Point) → Among (points ws 31) p → (ch : Chord) × (j : ℕ) × Among (chords ws 31) ch × (j < ch.length) × (p ≡ record { u = ch.start +ℤ pos j; v = ch.v })
-  point_chord p i =
-      let q = held_at ws (p.u +ℤ pos 15) (p.v +ℤ pos 15) (among_held ws p i) in
-      let c = q.0 in
-      let r = q.1 in
-      let k = covering ws c r q.4 in
-      let j : ℕ = c - k.0 in
-      let e : p.u ≡ (pos k.0 -ℤ pos 15) +ℤ pos j = omega (arith, ints, q.2, k.1) in
-      let f : p.v ≡ pos r -ℤ pos 15 = omega (arith, ints, q.3) in
-      (chord_at ws r k.0, j, k.3, omega (arith, k.1, k.2), same_point p (record { u = (pos k.0 -ℤ pos 15) +ℤ pos j; v = pos r -ℤ pos 15 }) e f)

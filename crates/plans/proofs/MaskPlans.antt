@@ -14,7 +14,7 @@ use Rattle.masks.proofs.CostBounds.{chords_few, lengths_few, spanned_few}
 use Rattle.masks.proofs.Grids.{same_point}
 use Rattle.masks.proofs.Halving.{lengths_serve, lengths_short}
 use Rattle.masks.proofs.Lists.{all_among}
-use Rattle.masks.proofs.Runs.{some_chord, chords_on_grid}
+use Rattle.masks.proofs.Runs.{some_chord, chords_on_grid, chord_point, point_chord}
 use Rattle.plans.specs.declared.plan.Plan.{Plan}
 use Rattle.plans.specs.declared.placed.PlannedChord.{PlannedChord}
 use Rattle.plans.specs.Sound.{chord_at, Sound}
@@ -22,7 +22,7 @@ use Rattle.plans.specs.Placed.{Below, index_of, planned}
 use Rattle.plans.specs.Plan.{long, point_of, Spells, PlanOf}
 use Rattle.plans.proofs.Finds.{getD_among, among_getD, index_found, climbs_at, climbs_low}
 use Rattle.plans.proofs.Extents.{north, last_row}
-use Rattle.plans.proofs.MaskChords.{lies, chord_point, point_chord}
+use Rattle.plans.proofs.MaskChords.{lies}
 
 abbrev none : Chord
 none = record { v = pos 0; start = pos 0; length = 0 }

@@ -1,15 +1,13 @@
 -- A list of answers with a place for each call is written over whole.
-use Rattle.std.proofs.Common.{◌≡◌, ℕ, suc, ◌≤◌, List, [], ◌∷◌, ◌++◌, map, length, take, drop, refl, ap, ◌∙◌, arith}
+use Rattle.std.proofs.Common.{◌≡◌, ℕ, ◌≤◌, List, ◌++◌, map, length, take, drop, ap, ◌∙◌, arith}
 use Rattle.std.proofs.lemmas.List.{length-map, take_all, drop_all, append-nil}
 use Rattle.cells.specs.Lattice.{Lattice}
-use Rattle.morphology.specs.Calls.{State, after, answers}
+use Rattle.morphology.specs.Calls.{State, answers}
 use Rattle.morphology.specs.declared.call.Call.{Call}
 use Rattle.morphology.specs.declared.call.Answer.{Answer}
-use Rattle.worksheets.specs.Runs.{within, made, written}
-
-answers_long : {C : Type 0} (k : Lattice C) (cs : List Call) (s : State C) → length (answers k cs s) ≡ length cs
-answers_long k [] s = refl
-answers_long k (c ∷ cs) s = ap suc (answers_long k cs (after k c s))
+use Rattle.morphology.proofs.Runs.{answers_long}
+use Rattle.filters.specs.Lists.{written}
+use Rattle.worksheets.specs.Runs.{within, made}
 
 module _ {C : Type 0} (k : Lattice C) (cs : List Call) (s : State C) (n m : ℕ) (bs : List Answer) where
   pub told_all : length cs ≤ m → length bs ≡ length cs → written (answers k (made n m cs) s) bs ≡ answers k (map (within n) cs) s

@@ -1,5 +1,5 @@
 -- One more call of a list.
-use Rattle.std.proofs.Common.{◌≡◌, ℕ, suc, ◌+◌, ◌<◌, ◌≤◌, min, List, [], ◌∷◌, ◌++◌, map, length, get_or, take, drop, set, sym, refl, ap, ◌∙◌, subst, inl, inr, arith}
+use Rattle.std.proofs.Common.{◌≡◌, ℕ, ◌+◌, ◌<◌, ◌≤◌, min, List, [], ◌∷◌, ◌++◌, map, length, get_or, take, drop, set, sym, refl, ap, ◌∙◌, subst, inl, inr, arith}
 use lib.Seq.{append_snoc}
 use Rattle.std.proofs.lemmas.List.{length-map, length-take, length-take-le, length_push, map_more, drop_more, set-append_right, take_all}
 use Rattle.std.proofs.lemmas.Bool.{cases_lt}
@@ -9,9 +9,11 @@ use Rattle.sheets.specs.Sheet.{Sheet}
 use Rattle.morphology.specs.Calls.{State, after, answer, run, answers}
 use Rattle.morphology.specs.declared.call.Call.{Call}
 use Rattle.morphology.specs.declared.call.Answer.{Answer}
+use Rattle.morphology.proofs.Runs.{answers_long}
+use Rattle.filters.specs.Lists.{written}
 use Rattle.worksheets.specs.declared.worksheet.Worksheet.{Worksheet}
 use Rattle.worksheets.specs.Performed.{state}
-use Rattle.worksheets.specs.Runs.{within, made, written, Idle, Called, Ran}
+use Rattle.worksheets.specs.Runs.{within, made, Idle, Called, Ran}
 
 module _ {C : Type 0} (k : Lattice C) (c : Call) where
   run_push : (cs : List Call) (s : State C) → run k (cs ++ c ∷ []) s ≡ after k c (run k cs s)
@@ -21,10 +23,6 @@ module _ {C : Type 0} (k : Lattice C) (c : Call) where
   answers_push : (cs : List Call) (s : State C) → answers k (cs ++ c ∷ []) s ≡ answers k cs s ++ answer c (run k cs s) ∷ []
   answers_push [] s = refl
   answers_push (d ∷ cs) s = ap (λ bs. answer d s ∷ bs) (answers_push cs (after k d s))
-
-pub answers_long : {C : Type 0} (k : Lattice C) (cs : List Call) (s : State C) → length (answers k cs s) ≡ length cs
-answers_long k [] s = refl
-answers_long k (c ∷ cs) s = ap suc (answers_long k cs (after k c s))
 
 all_front : {X : Type 0} (P : X → Type 0) (xs : List X) (x : X) → AllByRecursion P (xs ++ x ∷ []) → AllByRecursion P xs × P x
 all_front P [] x h = (tt, h.0)

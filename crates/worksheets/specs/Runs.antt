@@ -1,12 +1,11 @@
 -- What a call from a list does, and what a list of calls does, with a lent table and a lent list for the answers.
 --     within n c                           the call c with a table of at most n cells
 --     made n m cs                          the calls of cs that are made with a table of n cells and places for m answers
---     written over xs                      xs with the list `over` written over its front
 --     Idle a                               a is the answer to a lay or to a refused filter
 --     Called k f sheet c w w' t t' a       from the worksheet w and the table t, the call c leaves w' and t' and is answered by a
 --     Ran k f sheet cs w w' t t' bs bs'    from w, t and the list bs, the calls cs leave w', t' and the list bs' with their answers
 --     Stands k f sheet cs w w'             of the four sheets that the calls cs could show, the one that w' shows
-use Rattle.std.specs.Prelude.{◌≡◌, ℕ, min, List, ◌++◌, map, length, take, drop, None}
+use Rattle.std.specs.Prelude.{◌≡◌, ℕ, min, List, map, length, take, None}
 use Rattle.std.specs.List.{AllByRecursion}
 use Rattle.cells.specs.Lattice.{Lattice}
 use Rattle.masks.specs.declared.mask.Mask.{Mask}
@@ -18,6 +17,7 @@ use Rattle.morphology.specs.declared.call.Call.{Call}
 use Rattle.morphology.specs.declared.call.Call.TheVariants.{Lay, Apply}
 use Rattle.morphology.specs.declared.call.Answer.{Answer}
 use Rattle.morphology.specs.declared.call.Answer.TheVariants.{Laid, Picks, Refused}
+use Rattle.filters.specs.Lists.{written}
 use Rattle.worksheets.specs.declared.worksheet.Worksheet.{Worksheet}
 use Rattle.worksheets.specs.Performed.{state}
 
@@ -29,10 +29,6 @@ within n (Apply q a) = Apply q (min a n)
 -- a call is made where its answer has a place
 abbrev pub made : ℕ → ℕ → List Call → List Call
 made n m cs = map (within n) (take m cs)
-
--- the rest stays as it was
-abbrev pub written : {X : Type 0} → List X → List X → List X
-written over xs = over ++ drop (length over) xs
 
 -- no filter went ahead
 abbrev pub Idle : Answer → Type 0

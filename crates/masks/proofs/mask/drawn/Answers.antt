@@ -1,22 +1,16 @@
 -- A turn takes in one point; at the end they are all points of the list.
-use Rattle.std.proofs.Common.{◌≡◌, ℕ, ◌<◌, true, List, [], ◌∷◌, ◌++◌, length, get_or, take, set, ℤ, pos, ◌+ℤ◌, sym, refl, ap, ◌∙◌, subst, arith, w32, SFits, rules}
-use Rattle.std.specs.List.{AllByRecursion}
-use Rattle.std.proofs.ByRecursion.{All-get_or}
+use Rattle.std.proofs.Common.{◌≡◌, ℕ, ◌<◌, [], ◌∷◌, ◌++◌, get_or, take, set, ℤ, pos, ◌+ℤ◌, sym, refl, ap, ◌∙◌, subst, arith, w32, SFits, rules}
 use Rattle.std.proofs.lemmas.List.{length-set, take_more}
 use Rattle.std.proofs.lemmas.Int.{to_z-of_z}
-use Rattle.std.proofs.lemmas.Bool.{and_parts, cond_below}
+use Rattle.std.proofs.lemmas.Bool.{cond_below}
 use Rattle.bits.specs.Bit.{with_bit}
-use Rattle.masks.specs.Points.{near, near_offset, origin}
+use Rattle.masks.specs.Points.{origin}
 use Rattle.masks.specs.Rows.{Drawn}
-use Rattle.masks.specs.declared.point.Point.{Point}
 use Rattle.masks.proofs.Grids.{drawn_none, drawn_more}
 use Rattle.masks.proofs.mask.drawn.Goals as goal
 
 pub loop-p-init : goal.loop-p-init
 loop-p-init c = (refl, drawn_none)
-
-near_here : (ps : List Point) (i : ℕ) → i < length ps → AllByRecursion (λ p. near p ≡ true) ps → (near_offset (get_or ps i origin).u ≡ true) × (near_offset (get_or ps i origin).v ≡ true)
-near_here ps i h a = and_parts (near_offset (get_or ps i origin).u) (near_offset (get_or ps i origin).v) (All-get_or (λ p. near p ≡ true) ps i origin h a)
 
 pub loop-p-preserved : goal.loop-p-preserved
 loop-p-preserved c =

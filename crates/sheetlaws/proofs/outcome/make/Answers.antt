@@ -5,7 +5,8 @@ use Rattle.cells.specs.declared.gray.Gray.{Gray}
 use Rattle.sheets.specs.Sheet.{Sheet, shown}
 use Rattle.sheets.specs.Rows.{whole_rows}
 use Rattle.morphology.specs.Calls.{State, new, answers}
-use Rattle.worksheets.specs.Runs.{within, made, written}
+use Rattle.filters.specs.Lists.{written}
+use Rattle.worksheets.specs.Runs.{within, made}
 use Rattle.sheetlaws.proofs.Told.{told_all, lent_all}
 use Rattle.sheetlaws.proofs.outcome.make.Goals as goal
 
