@@ -1,6 +1,7 @@
 // A mask drawn again.
-ghost use Rattle.std.specs.Prelude.{◌≡◌, ◌<◌, ◌&&◌, map, IfOk, string_bytes};
-ghost use Rattle.drawings.specs.Pictures.{is_zero, sign_at};
+ghost use Rattle.std.specs.Prelude.{◌≡◌, ◌<◌, ◌&&◌, map, pos, IfOk, string_bytes};
+ghost use Rattle.std.specs.Ordering.{int_eq};
+ghost use Rattle.drawings.specs.Pictures.{sign_at};
 
 use masks::mask::Mask;
 use masks::point::Point;
@@ -34,7 +35,7 @@ fn sign(mask: &Mask, u: i32, v: i32) -> char
 
 // Whether both offsets are none.
 fn is_origin(u: i32, v: i32) -> bool
-    ensures { result ≡ (is_zero u && is_zero v) }
+    ensures { result ≡ (int_eq u (pos 0) && int_eq v (pos 0)) }
 {
     u == 0 && v == 0
 }

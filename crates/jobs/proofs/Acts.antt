@@ -6,7 +6,7 @@ use Rattle.masks.specs.Faults.{refused}
 use Rattle.masks.specs.declared.mask.Mask.{Mask}
 use Rattle.masks.specs.declared.point.Point.{Point}
 use Rattle.masks.specs.declared.fault.MaskFault.{MaskFault}
-use Rattle.jobs.specs.Acts.{blamed, laid, act_by, act_of, closed, AlikeAct, Alike, Closes}
+use Rattle.jobs.specs.Acts.{blamed, laid, act_by, act_of, run_then, AlikeAct, Alike, EndsRun}
 use Rattle.jobs.specs.Masks.{drawn}
 use Rattle.jobs.specs.declared.fault.PointsFault.{PointsFault}
 use Rattle.jobs.specs.declared.act.Act.{Act}
@@ -31,7 +31,7 @@ mask_alike w ps (Err f) (Ok n) told ok err h = absurd h
 mask_alike w ps (Err f) (Err e) told ok err h = rw (err f refl, told f e h) refl
 
 -- what is closed leads to the same acts
-pub closes_alike : (w : ℕ) (ps : List Point) (old new more rest all : List Act) → Closes w ps old new → ((xs : List Act) → Alike xs (closed w ps rest) → Alike (old ++ xs) all) → Alike more rest → Alike (new ++ more) all
+pub closes_alike : (w : ℕ) (ps : List Point) (old new more rest all : List Act) → EndsRun w ps old new → ((xs : List Act) → Alike xs (run_then w ps rest) → Alike (old ++ xs) all) → Alike more rest → Alike (new ++ more) all
 closes_alike w [] old new more rest all c leads m = subst (λ (xs : List Act). Alike (xs ++ more) all) (sym c) (leads more m)
 closes_alike w (p ∷ ps) old new more rest all c leads m =
     subst (λ (xs : List Act). Alike (xs ++ more) all) (sym c.2)

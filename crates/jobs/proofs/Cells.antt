@@ -12,7 +12,7 @@ use Rattle.strips.specs.declared.kind.CellKind.TheVariants.{Gray, Height, Flags,
 use Rattle.sheets.specs.declared.window.Rectangle.{Rectangle}
 use Rattle.cells.specs.Lattice.{Lattice}
 use Rattle.strips.specs.Jobs.{Job}
-use Rattle.jobs.specs.Piles.{turned, framed, topmost}
+use Rattle.jobs.specs.Piles.{north_up, framed, topmost}
 use Rattle.jobs.specs.Listings.{cells_by, performed, Lists, ListsJob}
 use Rattle.jobs.specs.declared.act.Act.{Act}
 use Rattle.jobs.specs.declared.line.Line.{Line}
@@ -31,11 +31,11 @@ module _ {A B : Type 0} (f : A → B) where
       ap (by (row_count w n)) (fun_ext (λ x. fun_ext (λ y. at x y)))
       ∙ ap (λ (m : ℕ). by (row_count w m) (λ x y. cond (inside w (row_count w m) x y) (slice_get (map f xs) (row_place w x y)) None)) (sym (length-map xs f))
 
-  turned_shown : (k : CellKind) (s : Sheet A) → shown f (turned k s) ≡ turned k (shown f s)
-  turned_shown Gray s = refl
-  turned_shown Height s = refl
-  turned_shown Flags s = refl
-  turned_shown Return s = refl
+  north_up_shown : (k : CellKind) (s : Sheet A) → shown f (north_up k s) ≡ north_up k (shown f s)
+  north_up_shown Gray s = refl
+  north_up_shown Height s = refl
+  north_up_shown Flags s = refl
+  north_up_shown Return s = refl
 
   framed_shown : (o : Option Rectangle) (s : Sheet A) → shown f (framed o s) ≡ framed o (shown f s)
   framed_shown None s = refl
@@ -45,7 +45,7 @@ module _ {A B : Type 0} (f : A → B) where
       ap by (fun_ext (λ x. fun_ext (λ y. cond_shown (inside r.size.width r.size.height x y) (s.cell (r.left + x) (r.top + y)))))
 
   topmost_shown : (k : CellKind) (w : ℕ) (o : Option Rectangle) (xs : List A) → shown f (topmost k w o xs) ≡ topmost k w o (map f xs)
-  topmost_shown k w o xs = framed_shown o (turned k (whole_rows w xs)) ∙ ap (framed o) (turned_shown k (whole_rows w xs) ∙ ap (turned k) (rows_shown w xs))
+  topmost_shown k w o xs = framed_shown o (north_up k (whole_rows w xs)) ∙ ap (framed o) (north_up_shown k (whole_rows w xs) ∙ ap (north_up k) (rows_shown w xs))
 
 -- values that mean what the words do, in one pile
 pub topmost_same : {K C : Type 0} (f : K → C) (g : ℕ → C) (k : CellKind) (w : ℕ) (o : Option Rectangle) (xs : List K) (raws : List ℕ) → map f xs ≡ map g raws → shown f (topmost k w o xs) ≡ shown g (topmost k w o raws)

@@ -6,7 +6,7 @@ use Rattle.strips.specs.Jobs.{point_of}
 use Rattle.strips.specs.declared.parts.PointFields.{PointFields}
 use Rattle.strips.specs.declared.parts.Step.{Step}
 use Rattle.strips.specs.declared.parts.Step.TheVariants as steps
-use Rattle.jobs.specs.Acts.{closed, acts}
+use Rattle.jobs.specs.Acts.{run_then, acts}
 use Rattle.jobs.specs.Laws.{run_steps, run_points, Runs}
 use Rattle.jobs.specs.declared.act.Act.TheVariants.{Filter}
 
@@ -21,7 +21,7 @@ pub runs : Runs
 runs = record {
   call = λ w r q ss.
       run_taken w [] r (steps.Call q ∷ ss)
-      ∙ ap (λ (n : ℕ). closed w (run_points r) (Filter q ∷ acts (w + n + 1) [] ss)) (length-map r point_of);
+      ∙ ap (λ (n : ℕ). run_then w (run_points r) (Filter q ∷ acts (w + n + 1) [] ss)) (length-map r point_of);
   end = λ w r.
       ap (acts w []) (sym (append-nil (run_steps r))) ∙ run_taken w [] r [];
 }

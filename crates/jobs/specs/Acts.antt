@@ -1,11 +1,11 @@
 -- What the steps of a job are taken for: an unbroken run of points is one mask.
 --     blamed w f         the refusal f of a mask whose first point is word w
 --     act_of w ps        what comes of the run of points ps, the first of which is word w
---     closed w ps xs     that, where there are points, and then the acts xs
+--     run_then w ps xs   that, where there are points, and then the acts xs
 --     acts w ps ss       the acts of the steps ss, behind the open run ps that begins, or would begin, at word w
 --     job_acts j         the acts of a job
 --     Alike xs ys        the same acts, with masks of the same points
---     Closes w ps xs ys  ys is xs and what comes of the run ps, if it has points
+--     EndsRun w ps xs ys ys is xs and what comes of the run ps, if it has points
 use Rattle.std.specs.Prelude.{◌≡◌, ℕ, ◌+◌, List, [], ◌∷◌, ◌++◌, length, Some, None, Ok, Err, Option}
 use Rattle.masks.specs.Rows.{marked}
 use Rattle.masks.specs.Faults.{refused}
@@ -42,15 +42,15 @@ act_by w ps (Some f) = refuse w f
 abbrev pub act_of : ℕ → List Point → Act
 act_of w ps = act_by w ps (refused ps)
 
-abbrev pub closed : ℕ → List Point → List Act → List Act
-closed w [] xs = xs
-closed w (p ∷ ps) xs = act_of w (p ∷ ps) ∷ xs
+abbrev pub run_then : ℕ → List Point → List Act → List Act
+run_then w [] xs = xs
+run_then w (p ∷ ps) xs = act_of w (p ∷ ps) ∷ xs
 
--- a point lengthens the run; a call closes it, and so does the end
+-- a point lengthens the run, which lasts until a call or the end
 abbrev pub acts : ℕ → List Point → List Step → List Act
-acts w ps [] = closed w ps []
+acts w ps [] = run_then w ps []
 acts w ps (steps.Point p ∷ ss) = acts w (ps ++ point_of p ∷ []) ss
-acts w ps (steps.Call q ∷ ss) = closed w ps (Filter q ∷ acts (w + length ps + 1) [] ss)
+acts w ps (steps.Call q ∷ ss) = run_then w ps (Filter q ∷ acts (w + length ps + 1) [] ss)
 
 abbrev pub job_acts : Job → List Act
 job_acts j = acts (first_step j) [] j.steps
@@ -69,7 +69,7 @@ Alike [] (y ∷ ys) = ⊥
 Alike (x ∷ xs) [] = ⊥
 Alike (x ∷ xs) (y ∷ ys) = AlikeAct x y × Alike xs ys
 
--- a run that is closed is one act more, if it has points
-abbrev pub Closes : ℕ → List Point → List Act → List Act → Type 0
-Closes w [] xs ys = ys ≡ xs
-Closes w (p ∷ ps) xs ys = (a : Act) × AlikeAct a (act_of w (p ∷ ps)) × (ys ≡ xs ++ a ∷ [])
+-- a run that is at its end is one act more, if it has points
+abbrev pub EndsRun : ℕ → List Point → List Act → List Act → Type 0
+EndsRun w [] xs ys = ys ≡ xs
+EndsRun w (p ∷ ps) xs ys = (a : Act) × AlikeAct a (act_of w (p ∷ ps)) × (ys ≡ xs ++ a ∷ [])

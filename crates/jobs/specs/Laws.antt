@@ -14,7 +14,7 @@ use Rattle.strips.specs.declared.parts.PointFields.{PointFields}
 use Rattle.strips.specs.declared.parts.Step.{Step}
 use Rattle.strips.specs.declared.parts.Step.TheVariants as steps
 use Rattle.jobs.specs.Masks.{mask_of}
-use Rattle.jobs.specs.Acts.{closed, acts}
+use Rattle.jobs.specs.Acts.{run_then, acts}
 use Rattle.jobs.specs.declared.act.Act.TheVariants.{Filter}
 
 abbrev pub MaskOf : List Point → Option Mask → Type 0
@@ -31,5 +31,5 @@ run_points r = map point_of r
 
 -- these two tell the acts of all steps, since steps are runs of points with calls between them
 pub record Runs : Type 0 where
-  pub call : (w : ℕ) (r : List PointFields) (q : filters.Filter) (ss : List Step) → acts w [] (run_steps r ++ steps.Call q ∷ ss) ≡ closed w (run_points r) (Filter q ∷ acts (w + length r + 1) [] ss)
-  pub end : (w : ℕ) (r : List PointFields) → acts w [] (run_steps r) ≡ closed w (run_points r) []
+  pub call : (w : ℕ) (r : List PointFields) (q : filters.Filter) (ss : List Step) → acts w [] (run_steps r ++ steps.Call q ∷ ss) ≡ run_then w (run_points r) (Filter q ∷ acts (w + length r + 1) [] ss)
+  pub end : (w : ℕ) (r : List PointFields) → acts w [] (run_steps r) ≡ run_then w (run_points r) []

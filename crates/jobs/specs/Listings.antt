@@ -25,7 +25,7 @@ use Rattle.strips.specs.Jobs.{Job}
 use Rattle.strips.specs.declared.kind.CellKind.{CellKind}
 use Rattle.strips.specs.declared.kind.CellKind.TheVariants as kinds
 use Rattle.strips.specs.declared.fault.StripFault.{StripFault}
-use Rattle.jobs.specs.Words.{cell_of, Names, gray_listed, height_listed, flags_listed, return_listed}
+use Rattle.jobs.specs.Words.{cell_or_least, Names, gray_listed, height_listed, flags_listed, return_listed}
 use Rattle.jobs.specs.Acts.{job_acts}
 use Rattle.jobs.specs.Piles.{pile}
 use Rattle.jobs.specs.declared.act.Act.{Act}
@@ -76,7 +76,7 @@ Lists {C = C} k f g kind xs s ls = (named : C → ℕ) → Names f g named → l
 
 -- the cells of raw words, as the kind reads them
 abbrev pub cells_by : {K C : Type 0} → Lattice C → (K → C) → (ℕ → Option K) → ℕ → C
-cells_by k f reads w = cell_of k f (reads w)
+cells_by k f reads w = cell_or_least k f (reads w)
 
 -- ls is the listing of the acts xs on the topmost of the job j
 abbrev pub ListsJob : {K C : Type 0} → Lattice C → (K → C) → (ℕ → Option K) → (K → ℕ) → List Act → Job → List Line → Type 0

@@ -1,11 +1,11 @@
 -- The cell of a raw word, and the word by which a cell is listed.
---     cell_of k f o      the cell of a word that is read as o
---     gray_listed c      the word of a gray: its number
---     height_listed c    the word of a height: its number in two's complement
---     flags_listed m     the word of flags: bit i is 1 where mark i stands
---     bits_of z          the bits of a return of the rank z
---     return_listed c    the word of a return: the bits that have its rank
---     Names f g named    the words g of stored values are those of the cells that they mean, as f reads them
+--     cell_or_least k f o   the cell of a word that is read as o
+--     gray_listed c         the word of a gray: its number
+--     height_listed c       the word of a height: its number in two's complement
+--     flags_listed m        the word of flags: bit i is 1 where mark i stands
+--     bits_of z             the bits of a return of the rank z
+--     return_listed c       the word of a return: the bits that have its rank
+--     Names f g named       the words g of stored values are those of the cells that they mean, as f reads them
 use Rattle.std.specs.Prelude.{◌≡◌, ℕ, suc, ◌+◌, ◌^◌, cond, List, [], ◌∷◌, ℤ, pos, negsuc, Some, None, Option, sum_by}
 use Rattle.std.proofs.Common.{lit<}
 use Rattle.cells.specs.Lattice.{Lattice}
@@ -13,9 +13,9 @@ use Rattle.cells.specs.Kinds.{GrayCell, HeightCell, Mark, Marks, ReturnCell}
 use Rattle.cells.specs.Words.{unsigned}
 
 -- by the word form of the kind; what is no cell, which a job that was read has not, counts as the least
-abbrev pub cell_of : {K C : Type 0} → Lattice C → (K → C) → Option K → C
-cell_of k f (Some a) = f a
-cell_of k f None = k.least
+abbrev pub cell_or_least : {K C : Type 0} → Lattice C → (K → C) → Option K → C
+cell_or_least k f (Some a) = f a
+cell_or_least k f None = k.least
 
 abbrev pub gray_listed : GrayCell → ℕ
 gray_listed c = unsigned c.number

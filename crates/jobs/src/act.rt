@@ -1,7 +1,7 @@
 // The steps of a job, with each run of points as one mask.
 ghost use Rattle.std.specs.Prelude.{◌≡◌, ℕ, ◌+◌, ◌^◌, ◌<◌, List, [], ◌∷◌, ◌++◌, length, IfOk};
 ghost use Rattle.strips.specs.Views.{job_of};
-ghost use Rattle.jobs.specs.Acts.{blamed, act_of, job_acts, AlikeAct, Alike, Closes};
+ghost use Rattle.jobs.specs.Acts.{blamed, act_of, job_acts, AlikeAct, Alike, EndsRun};
 ghost use Rattle.jobs.specs.declared.act.Act.TheVariants.{Run, Filter as Called};
 
 use crate::fault::PointsFault;
@@ -71,10 +71,10 @@ impl Acts {
         Ok(())
     }
 
-    // A call closes it; the next run begins at the word after it.
+    // A call ends it; the next run begins at the word after it.
     fn call(&mut self, filter: Filter) -> Result<(), AllocError>
         requires { self.now.first + length self.now.run.items + 1 < 2 ^ 63 }
-        ensures done { IfOk result (λ _. (xs : List Act) × Closes self.old.first self.old.run.items self.old.done.items xs × self.new.done.items ≡ xs ++ Called filter ∷ []) }
+        ensures done { IfOk result (λ _. (xs : List Act) × EndsRun self.old.first self.old.run.items self.old.done.items xs × self.new.done.items ≡ xs ++ Called filter ∷ []) }
         ensures first { IfOk result (λ _. self.new.first ≡ self.old.first + length self.old.run.items + 1) }
         ensures run { IfOk result (λ _. self.new.run.items ≡ []) }
     {
@@ -85,9 +85,9 @@ impl Acts {
         Ok(())
     }
 
-    // The acts, once the run is closed.
+    // The acts, once the run is at its end.
     fn end(mut self) -> Result<Vec<Act>, AllocError>
-        ensures { IfOk result (λ v. Closes self.first self.run.items self.done.items v.items) }
+        ensures { IfOk result (λ v. EndsRun self.first self.run.items self.done.items v.items) }
     {
         self.close()?;
         Ok(self.done)
@@ -95,7 +95,7 @@ impl Acts {
 
     // Puts what comes of the run behind the acts, if the run has points.
     fn close(&mut self) -> Result<(), AllocError>
-        ensures done { IfOk result (λ _. Closes self.old.first self.old.run.items self.old.done.items self.new.done.items) }
+        ensures done { IfOk result (λ _. EndsRun self.old.first self.old.run.items self.old.done.items self.new.done.items) }
         ensures first { self.new.first ≡ self.old.first }
         ensures run { self.new.run.items ≡ self.old.run.items }
     {

@@ -2,7 +2,7 @@
 ghost use Rattle.std.specs.Prelude.{◌≡◌, [], ◌∷◌, map, IfOk, string_bytes};
 ghost use Rattle.strips.specs.Reading.{reading};
 ghost use Rattle.strips.specs.Views.{job_of};
-ghost use Rattle.jobs.specs.Piles.{turned, framed};
+ghost use Rattle.jobs.specs.Piles.{north_up, framed};
 ghost use Rattle.jobs.specs.Listings.{cells_by, listed, listing, Lists, ListsJob};
 ghost use Rattle.jobs.specs.Texts.{text};
 
@@ -83,7 +83,7 @@ impl Planned<'_> {
     where
         H: Holder + Drop,
         H::Cell: Listed + Drop,
-        ensures { IfOk result (λ v. Lists H.Cell.Kind.lattice H.Cell.Kind.means H.Cell.Listed.listed (job_of self.now.job.now).kind self.now.acts.now (framed (job_of self.now.job.now).window (turned (job_of self.now.job.now).kind (H.Holder.sheet pile))) v.items) }
+        ensures { IfOk result (λ v. Lists H.Cell.Kind.lattice H.Cell.Kind.means H.Cell.Listed.listed (job_of self.now.job.now).kind self.now.acts.now (framed (job_of self.now.job.now).window (north_up (job_of self.now.job.now).kind (H.Holder.sheet pile))) v.items) }
     {
         match self.job.kind() {
             CellKind::Height => self.list_framed(SouthUp::new(pile)),

@@ -13,8 +13,8 @@ use Rattle.morphology.specs.declared.standing.Standing.{Standing}
 use Rattle.morphology.specs.declared.standing.Standing.TheVariants.{Loaded, Once, Twice, Thrice}
 use Rattle.sheetlaws.specs.declared.job.Pass.{Pass}
 
-abbrev pub call : Sort → List ℕ
-call q = filter_name (filter_of q)
+abbrev pub sort_name : Sort → List ℕ
+sort_name q = filter_name (filter_of q)
 
 abbrev pub with_cells : Option ℕ → List ℕ
 with_cells None = []
@@ -22,7 +22,7 @@ with_cells (Some n) = codes " with " ++ decimal n ++ codes " cells"
 
 -- with the cells of its table, where the job tells them
 abbrev pub pass_text : Pass → List ℕ
-pass_text p = call p.sort ++ with_cells p.cells
+pass_text p = sort_name p.sort ++ with_cells p.cells
 
 abbrev pub done : Sort → List ℕ
 done Opening = codes "opened"
@@ -37,10 +37,10 @@ sheet_name (Thrice q) = done q ++ codes "-" ++ done (other q) ++ codes "-" ++ do
 
 abbrev pub reason : Standing → List ℕ
 reason Loaded = codes "so the sheet is as it was loaded"
-reason (Once q) = codes "all of them " ++ call q ++ codes ", so the sheet is " ++ done q ++ codes " once"
+reason (Once q) = codes "all of them " ++ sort_name q ++ codes ", so the sheet is " ++ done q ++ codes " once"
 reason (Twice q) =
-    codes "the first " ++ call q ++ codes ", the last " ++ call (other q)
+    codes "the first " ++ sort_name q ++ codes ", the last " ++ sort_name (other q)
     ++ codes ", so the sheet is " ++ done q ++ codes " and then " ++ done (other q)
 reason (Thrice q) =
-    codes "the first and the last " ++ call q ++ codes ", with " ++ call (other q) ++ codes " between them, so the sheet is "
+    codes "the first and the last " ++ sort_name q ++ codes ", with " ++ sort_name (other q) ++ codes " between them, so the sheet is "
     ++ done q ++ codes ", " ++ done (other q) ++ codes " and " ++ done q ++ codes " again"

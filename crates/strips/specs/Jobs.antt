@@ -7,8 +7,9 @@
 --     point_of p         the point of a mask that a step's fields mean
 --     Sound j            the words of j say what j is
 --     Proper j           j has a strip
-use Rattle.std.specs.Prelude.{◌≡◌, ℕ, ◌+◌, ◌*◌, ◌^◌, ◌<◌, ◌≤◌, true, List, [], ◌∷◌, ◌++◌, length, map, Some, None, Ok, Option, IfSome, cond, nat_lt, pos, ◌-ℤ◌}
+use Rattle.std.specs.Prelude.{◌≡◌, ℕ, ◌+◌, ◌*◌, ◌^◌, ◌<◌, ◌≤◌, true, List, [], ◌∷◌, ◌++◌, length, map, Some, None, Ok, Option, IfSome, cond, nat_lt}
 use Rattle.std.specs.List.{flat_map, AllByRecursion}
+use Rattle.masks.specs.Points.{point_at}
 use Rattle.masks.specs.declared.point.Point.{Point}
 use Rattle.sheets.specs.declared.window.Rectangle.{Rectangle}
 use Rattle.strips.specs.Words.{word_bytes}
@@ -81,7 +82,7 @@ first_step j = 2 + length j.raws + length (window_words j.window)
 
 -- the offset that a field of a point means
 abbrev pub point_of : PointFields → Point
-point_of p = record { u = pos p.u -ℤ pos 15; v = pos p.v -ℤ pos 15 }
+point_of p = point_at p.u p.v
 
 -- a raw word that a strip of this kind may have
 abbrev pub IsRaw : CellKind → ℕ → Type 0

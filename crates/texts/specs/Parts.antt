@@ -2,7 +2,7 @@
 --     word_of p                  the word of the part p
 --     missing_text m             that the part m is missing, byte by byte
 --     FirstWords bs r q          what the words of the line bs are, as far as the second
---     begins p r q               a line of these words begins p
+--     begun_by p r q             a line of these words begins p
 --     Begins p bs b              b tells whether the line bs begins p
 --     Lacks p ls                 no line of ls begins p
 --     IsFirst p ls i             line i of ls is the first that begins p
@@ -34,12 +34,12 @@ is_word w None = false
 is_word w (Some x) = bytes_eq x.now w
 
 -- a heading has the word alone, a setting has it first
-abbrev pub begins : Part → Option (Bor (List ℕ)) → Option (Bor (List ℕ)) → Bool
-begins (Heading w) r q = is_word w.now r && is_none q
-begins (Setting w) r q = is_word w.now r
+abbrev pub begun_by : Part → Option (Bor (List ℕ)) → Option (Bor (List ℕ)) → Bool
+begun_by (Heading w) r q = is_word w.now r && is_none q
+begun_by (Setting w) r q = is_word w.now r
 
 abbrev pub Begins : Part → List ℕ → Bool → Type 0
-Begins p bs b = (r q : Option (Bor (List ℕ))) × FirstWords bs r q × (b ≡ begins p r q)
+Begins p bs b = (r q : Option (Bor (List ℕ))) × FirstWords bs r q × (b ≡ begun_by p r q)
 
 abbrev pub Lacks : Part → List Line → Type 0
 Lacks p ls = AllWithin (λ l. Begins p l.text.now false) ls 0 (length ls)
