@@ -2,8 +2,8 @@
 --     or_else f z o               the cell that o has, as f reads it, or z
 --     padded f z s y i            column i of row y, with 15 columns more on either side
 --     place s above c l           column c of line l: row l - above of the sheet, with 15 columns before it
---     UnderCell k f z a o           a lies under the cell that o has, or under z
---     entry k f table x            what entry x of the table means
+--     UnderCell k f z a o         a lies under the cell that o has, or under z
+--     entry k f table x           what entry x of the table means
 --     Beside f t t' a b           the entries before a and from b on are the same in t and t'
 --     Runs k f G p w t start n    the entries of the first n lengths are the greatest lower bounds of their runs
 --     Holds k f z s p w t start l the entries from start on are those of line l of the sheet s, places without a cell standing as z

@@ -8,7 +8,7 @@ use Rattle.std.proofs.Math.Nat.{mul-le-mul}
 use Rattle.strips.specs.Kinds.{is_cell}
 use Rattle.strips.specs.Items.{filter_number, item_word, Fits}
 use Rattle.strips.specs.Jobs.{Job, step_item, corner, extent, window_words, step_words, step_of, IsRaw, Sound, job_words}
-use Rattle.strips.specs.Reading.{Left, from, ◌>>=◌, word_due, item_due, shape_of, shape_due, count_of, count_due, cell_due, raws_due, corner_of, extent_of, frame_due, begins, window_due, one_more, steps_from, steps_due, ended, job_from}
+use Rattle.strips.specs.Reading.{Left, from, ◌>>=◌, word_due, item_due, shape_of, shape_due, count_of, count_due, cell_due, raws_due, frame_due, begins, window_due, one_more, steps_from, job_from}
 use Rattle.strips.specs.declared.kind.CellKind.{CellKind}
 use Rattle.strips.specs.declared.item.Item.{Item}
 use Rattle.strips.specs.declared.item.Item.TheVariants.{Head, Cells, Point, Call, End}
@@ -21,8 +21,8 @@ use Rattle.strips.specs.declared.fault.StripFault.TheVariants.{At}
 use Rattle.strips.specs.declared.fault.Ground.TheVariants.{NoCell, WrongCount}
 use Rattle.strips.proofs.Items.{item_again, filter_below}
 use Rattle.strips.proofs.Loops.{beside, step_at, steps_first}
-use Rattle.strips.proofs.Taken.{framed}
-use Rattle.strips.proofs.Told.{made}
+use Rattle.strips.proofs.Taken.{past_corner, past_extent}
+use Rattle.strips.proofs.Passed.{past_steps, past_window, past_raws, past_count, past_shape}
 
 -- the item of a word is read again
 item_due_again : (i : ℕ) (x : Item) (ws : List ℕ) → Fits x → item_due (from i (item_word x ∷ ws)) ≡ Ok (x, from (i + 1) ws)
@@ -69,13 +69,9 @@ raws_again k (r ∷ rs) ws i j fits e =
 frame_again : (f : Rectangle) (i : ℕ) (ws : List ℕ) → Fits (corner f) → Fits (extent f) → frame_due (from i (window_words (Some f) ++ ws)) ≡ Ok (f, from (i + 1 + 1) ws)
 unfolding frame_due
 frame_again f i ws hc he =
-    let fourth : ℕ × ℕ → Item × Left → ℕ × ℕ → Result (Rectangle × Left) StripFault = λ c y z. Ok (framed c z, y.1) in
-    let third : Left → ℕ × ℕ → Item × Left → Result (Rectangle × Left) StripFault = λ x c y. extent_of x.place y.0 >>= fourth c y in
-    let second : Left → ℕ × ℕ → Result (Rectangle × Left) StripFault = λ x c. item_due x >>= third x c in
-    let first : Item × Left → Result (Rectangle × Left) StripFault = λ x. corner_of i x.0 >>= second x.1 in
     let rest = item_word (extent f) ∷ ws in
-    ap (λ (r : Result (Item × Left) StripFault). r >>= first) (item_due_again i (corner f) rest hc)
-    ∙ ap (λ (r : Result (Item × Left) StripFault). r >>= third (from (i + 1) rest) (f.left, f.top)) (item_due_again (i + 1) (extent f) ws he)
+    ap (λ (r : Result (Item × Left) StripFault). r >>= past_corner i) (item_due_again i (corner f) rest hc)
+    ∙ ap (λ (r : Result (Item × Left) StripFault). r >>= past_extent (from (i + 1) rest) (f.left, f.top)) (item_due_again (i + 1) (extent f) ws he)
 
 begins_corner : (f : Rectangle) (ws : List ℕ) → Fits (corner f) → begins (item_word (corner f) ∷ ws) ≡ true
 begins_corner f ws fits =
@@ -156,20 +152,14 @@ job_again j t =
     let p3 = 2 + length j.raws in
     let p4 = p3 + length (window_words j.window) in
     let p5 = p4 + length j.steps + 1 in
-    let sixth : Shape → ℕ × Left → Option Rectangle × Left → ℕ × Left → Left → Result Job StripFault = λ s c f k x. Ok (made s c.0 c.1.words f.0 k.0 f.1.words) in
-    let fifth : Shape → ℕ × Left → Option Rectangle × Left → ℕ × Left → Result Job StripFault = λ s c f k. ended 0 k.1 >>= sixth s c f k in
-    let fourth : Shape → ℕ × Left → Option Rectangle × Left → Result Job StripFault = λ s c f. steps_due f.1 >>= fifth s c f in
-    let third : Shape → ℕ × Left → Left → Result Job StripFault = λ s c r. window_due r >>= fourth s c in
-    let second : Shape → ℕ × Left → Result Job StripFault = λ s c. raws_due s.kind c.0 c.1 >>= third s c in
-    let first : Shape × Left → Result Job StripFault = λ s. count_due (s.0.width * s.0.height) s.1 >>= second s.0 in
     let few : n < 2 ^ 28 = count_below j.width j.height t.head.1 t.head.2 in
     let raws : raws_due j.kind n (from 2 ws2) ≡ Ok (from p3 ws3) = ap (λ (k : ℕ). raws_due j.kind k (from 2 ws2)) (sym t.count) ∙ raws_again j.kind j.raws ws3 2 p3 t.raws refl in
     let cells : take n ws2 ≡ j.raws = take_at j.raws ws3 n t.count in
     let done : List ℕ → List Step → Job = λ rs ss. record { kind = j.kind; width = j.width; height = j.height; raws = rs; window = j.window; steps = ss } in
-    ap (λ (r : Result (Shape × Left) StripFault). r >>= first) (shape_again s ws1 t.head)
-    ∙ ap (λ (r : Result (ℕ × Left) StripFault). r >>= second s) (count_again n 1 ws2 few)
-    ∙ ap (λ (r : Result Left StripFault). r >>= third s (n, from 2 ws2)) raws
-    ∙ ap (λ (r : Result (Option Rectangle × Left) StripFault). r >>= fourth s (n, from 2 ws2)) (window_again j.window ws4 p3 p4 t.window (begins_steps j.steps [] t.steps) refl)
-    ∙ ap (λ (r : Result (ℕ × Left) StripFault). r >>= fifth s (n, from 2 ws2) (j.window, from p4 ws4)) (steps_again j.steps [] p4 p5 t.steps refl)
+    ap (λ (r : Result (Shape × Left) StripFault). r >>= past_shape 0) (shape_again s ws1 t.head)
+    ∙ ap (λ (r : Result (ℕ × Left) StripFault). r >>= past_count 0 s) (count_again n 1 ws2 few)
+    ∙ ap (λ (r : Result Left StripFault). r >>= past_raws 0 s (n, from 2 ws2)) raws
+    ∙ ap (λ (r : Result (Option Rectangle × Left) StripFault). r >>= past_window 0 s (n, from 2 ws2)) (window_again j.window ws4 p3 p4 t.window (begins_steps j.steps [] t.steps) refl)
+    ∙ ap (λ (r : Result (ℕ × Left) StripFault). r >>= past_steps 0 s (n, from 2 ws2) (j.window, from p4 ws4)) (steps_again j.steps [] p4 p5 t.steps refl)
     ∙ ap (λ (rs : List ℕ). Ok (done rs (map step_of (take (length j.steps) ws4)))) cells
     ∙ ap (λ (ss : List Step). Ok (done j.raws ss)) (steps_back j.steps (item_word End ∷ []) t.steps)

@@ -28,7 +28,7 @@ use Rattle.strips.proofs.Loops.{step_at}
 use Rattle.strips.proofs.Taken.{AreWords, TheWindow, shape_takes, count_takes, window_takes, steps_take}
 use Rattle.strips.proofs.Spelled.{AreBytes, words_fit}
 use Rattle.strips.proofs.Again.{shape_again, count_again, raws_again, window_again, steps_again, begins_steps, count_below}
-use Rattle.strips.proofs.Steady.{err_is, single, of_item, single_cause, shape_single, count_single, shape_place, count_place, corner_place, extent_place, extent_err, step_at_place, parts}
+use Rattle.strips.proofs.Steady.{corner_refused, extent_refused, step_refused, err_is, single, of_item, single_cause, shape_single, count_single, shape_place, count_place, corner_place, extent_place, extent_err, step_at_place, parts}
 use Rattle.strips.proofs.Stops.{stopped, parts_1, parts_2, parts_3, parts_4, parts_5}
 use Rattle.strips.proofs.Firsts.{head_word, count_word, end_words, raws_stop, Passed, passed_raws, Stops, window_stop, SomeSteps, steps_stop, whole_job, ended_at, refused_words}
 
@@ -123,31 +123,13 @@ late_number h order i le (Some x) f e = order i x f e ∙ sym (ap (λ (b : Bool)
 late_number {A} h order i le None f e = silent {A = A} i f e
 
 corner_order : (i : ℕ) (x : Item) (f : StripFault) → corner_of i x ≡ Err f → number f ≡ 4
-corner_order i (Head k w h) f e = misplaced {A = ℕ × ℕ} i f e
-corner_order i (Cells m) f e = misplaced {A = ℕ × ℕ} i f e
-corner_order i (Corner c r) f e = absurd cc
-corner_order i (Extent w h) f e = misplaced {A = ℕ × ℕ} i f e
-corner_order i (Point p) f e = misplaced {A = ℕ × ℕ} i f e
-corner_order i (Call q) f e = misplaced {A = ℕ × ℕ} i f e
-corner_order i End f e = misplaced {A = ℕ × ℕ} i f e
+corner_order i x f e = sym (ap number (corner_refused i x f e))
 
 extent_order : (i : ℕ) (x : Item) (f : StripFault) → extent_of i x ≡ Err f → number f ≡ 4
-extent_order i (Head k w h) f e = misplaced {A = ℕ × ℕ} i f e
-extent_order i (Cells m) f e = misplaced {A = ℕ × ℕ} i f e
-extent_order i (Corner c r) f e = misplaced {A = ℕ × ℕ} i f e
-extent_order i (Extent w h) f e = absurd cc
-extent_order i (Point p) f e = misplaced {A = ℕ × ℕ} i f e
-extent_order i (Call q) f e = misplaced {A = ℕ × ℕ} i f e
-extent_order i End f e = misplaced {A = ℕ × ℕ} i f e
+extent_order i x f e = sym (ap number (extent_refused i x f e))
 
 step_order : (i : ℕ) (x : Item) (f : StripFault) → is_step i x ≡ Err f → number f ≡ 4
-step_order i (Head k w h) f e = misplaced {A = Bool} i f e
-step_order i (Cells m) f e = misplaced {A = Bool} i f e
-step_order i (Corner c r) f e = misplaced {A = Bool} i f e
-step_order i (Extent w h) f e = misplaced {A = Bool} i f e
-step_order i (Point p) f e = absurd cc
-step_order i (Call q) f e = absurd cc
-step_order i End f e = absurd cc
+step_order i x f e = sym (ap number (step_refused i x f e))
 
 -- a part of one word behind a front, where no raw word stands
 part_number : {A : Type 0} (h : ℕ → Item → Result A StripFault) (ws rest : List ℕ) (i : ℕ) (f : StripFault) → is_raw ws i ≡ false → ((o : Option Item) → (said i o >>= h i) ≡ Err f → number f ≡ by_item i o)

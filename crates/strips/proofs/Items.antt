@@ -55,19 +55,24 @@ says_end b x e =
     let p = cond_some (b == 0) End x e in
     subst (Says 7 b) p.1 (refl, eqb-true b 0 p.0)
 
--- the filter with a number has that number
-number_of_filter : (b : ℕ) (q : Filter) → filter_of b ≡ Some q → filter_number q ≡ b
-number_of_filter b q e =
-    elim (chosen (b == 1) (Some Erode) (cond (b == 2) (Some Dilate) (cond (b == 3) (Some Open) (cond (b == 4) (Some Close) None))) (Some q) e) [
-      | inl p ↦ ap filter_number (sym (same_Some Erode q p.1)) ∙ sym (eqb-true b 1 p.0)
-      | inr p ↦ elim (chosen (b == 2) (Some Dilate) (cond (b == 3) (Some Open) (cond (b == 4) (Some Close) None)) (Some q) p.1) [
-        | inl p ↦ ap filter_number (sym (same_Some Dilate q p.1)) ∙ sym (eqb-true b 2 p.0)
-        | inr p ↦ elim (chosen (b == 3) (Some Open) (cond (b == 4) (Some Close) None) (Some q) p.1) [
-          | inl p ↦ ap filter_number (sym (same_Some Open q p.1)) ∙ sym (eqb-true b 3 p.0)
-          | inr p ↦ (let g = cond_some (b == 4) Close q p.1 in ap filter_number (sym g.1) ∙ sym (eqb-true b 4 g.0))
+-- of four things that are numbered from 1, the one with a number has that number
+numbered : {X : Type 0} (f : X → ℕ) (a b c d : X) → f a ≡ 1 → f b ≡ 2 → f c ≡ 3 → f d ≡ 4 → (n : ℕ) (x : X) →
+    cond (n == 1) (Some a) (cond (n == 2) (Some b) (cond (n == 3) (Some c) (cond (n == 4) (Some d) None))) ≡ Some x → f x ≡ n
+numbered f a b c d p q r s n x e =
+    elim (chosen (n == 1) (Some a) (cond (n == 2) (Some b) (cond (n == 3) (Some c) (cond (n == 4) (Some d) None))) (Some x) e) [
+      | inl h ↦ ap f (sym (same_Some a x h.1)) ∙ p ∙ sym (eqb-true n 1 h.0)
+      | inr h ↦ elim (chosen (n == 2) (Some b) (cond (n == 3) (Some c) (cond (n == 4) (Some d) None)) (Some x) h.1) [
+        | inl h ↦ ap f (sym (same_Some b x h.1)) ∙ q ∙ sym (eqb-true n 2 h.0)
+        | inr h ↦ elim (chosen (n == 3) (Some c) (cond (n == 4) (Some d) None) (Some x) h.1) [
+          | inl h ↦ ap f (sym (same_Some c x h.1)) ∙ r ∙ sym (eqb-true n 3 h.0)
+          | inr h ↦ (let g = cond_some (n == 4) d x h.1 in ap f (sym g.1) ∙ s ∙ sym (eqb-true n 4 g.0))
         ]
       ]
     ]
+
+-- the filter with a number has that number
+number_of_filter : (b : ℕ) (q : Filter) → filter_of b ≡ Some q → filter_number q ≡ b
+number_of_filter b q e = numbered filter_number Erode Dilate Open Close refl refl refl refl b q e
 
 says_mapped : (b : ℕ) (o : Option Filter) (x : Item) → filter_of b ≡ o → option_map Call o ≡ Some x → Says 6 b x
 says_mapped b (Some q) x h e = subst (Says 6 b) (same_Some (Call q) x e) (refl, number_of_filter b q h)
@@ -136,20 +141,7 @@ filter_below Close = lit< tt
 
 -- the kind with a number has that number
 number_of_kind : (n : ℕ) (k : CellKind) → kind_of n ≡ Some k → kind_number k ≡ n
-number_of_kind n k e =
-    elim (chosen (n == 1) (Some Gray) (cond (n == 2) (Some Height) (cond (n == 3) (Some Flags) (cond (n == 4) (Some Return) None))) (Some k) e) [
-      | inl p ↦ ap kind_number (sym (same_Some Gray k p.1)) ∙ sym (eqb-true n 1 p.0)
-      | inr p ↦ elim (chosen (n == 2) (Some Height) (cond (n == 3) (Some Flags) (cond (n == 4) (Some Return) None)) (Some k) p.1) [
-        | inl p ↦ ap kind_number (sym (same_Some Height k p.1)) ∙ sym (eqb-true n 2 p.0)
-        | inr p ↦ elim (chosen (n == 3) (Some Flags) (cond (n == 4) (Some Return) None) (Some k) p.1) [
-          | inl p ↦ ap kind_number (sym (same_Some Flags k p.1)) ∙ sym (eqb-true n 3 p.0)
-          | inr p ↦ elim (chosen (n == 4) (Some Return) None (Some k) p.1) [
-            | inl p ↦ ap kind_number (sym (same_Some Return k p.1)) ∙ sym (eqb-true n 4 p.0)
-            | inr p ↦ absurd (let q = p.1 in cc)
-          ]
-        ]
-      ]
-    ]
+number_of_kind n k e = numbered kind_number Gray Height Flags Return refl refl refl refl n k e
 
 by_kind : (n : ℕ) (o : Option CellKind) → kind_of n ≡ o → given_number (ok_or o (record { 0 = n })) ≡ n
 by_kind n (Some k) e = number_of_kind n k e

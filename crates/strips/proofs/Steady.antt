@@ -224,32 +224,41 @@ count_here n i (Point p) f e = order_here {A = ℕ} i f e
 count_here n i (Call q) f e = order_here {A = ℕ} i f e
 count_here n i End f e = order_here {A = ℕ} i f e
 
+pub corner_refused : (i : ℕ) (x : Item) (f : StripFault) → corner_of i x ≡ Err f → At OutOfOrder i ≡ f
+corner_refused i (Head k w h) f e = err_is {A = ℕ × ℕ} (At OutOfOrder i) f e
+corner_refused i (Cells m) f e = err_is {A = ℕ × ℕ} (At OutOfOrder i) f e
+corner_refused i (Corner c r) f e = absurd cc
+corner_refused i (Extent w h) f e = err_is {A = ℕ × ℕ} (At OutOfOrder i) f e
+corner_refused i (Point p) f e = err_is {A = ℕ × ℕ} (At OutOfOrder i) f e
+corner_refused i (Call q) f e = err_is {A = ℕ × ℕ} (At OutOfOrder i) f e
+corner_refused i End f e = err_is {A = ℕ × ℕ} (At OutOfOrder i) f e
+
 corner_here : (i : ℕ) (x : Item) (f : StripFault) → corner_of i x ≡ Err f → told_word f ≡ i
-corner_here i (Head k w h) f e = order_here {A = ℕ × ℕ} i f e
-corner_here i (Cells m) f e = order_here {A = ℕ × ℕ} i f e
-corner_here i (Corner c r) f e = absurd cc
-corner_here i (Extent w h) f e = order_here {A = ℕ × ℕ} i f e
-corner_here i (Point p) f e = order_here {A = ℕ × ℕ} i f e
-corner_here i (Call q) f e = order_here {A = ℕ × ℕ} i f e
-corner_here i End f e = order_here {A = ℕ × ℕ} i f e
+corner_here i x f e = sym (ap told_word (corner_refused i x f e))
+
+pub extent_refused : (i : ℕ) (x : Item) (f : StripFault) → extent_of i x ≡ Err f → At OutOfOrder i ≡ f
+extent_refused i (Head k w h) f e = err_is {A = ℕ × ℕ} (At OutOfOrder i) f e
+extent_refused i (Cells m) f e = err_is {A = ℕ × ℕ} (At OutOfOrder i) f e
+extent_refused i (Corner c r) f e = err_is {A = ℕ × ℕ} (At OutOfOrder i) f e
+extent_refused i (Extent w h) f e = absurd cc
+extent_refused i (Point p) f e = err_is {A = ℕ × ℕ} (At OutOfOrder i) f e
+extent_refused i (Call q) f e = err_is {A = ℕ × ℕ} (At OutOfOrder i) f e
+extent_refused i End f e = err_is {A = ℕ × ℕ} (At OutOfOrder i) f e
 
 extent_here : (i : ℕ) (x : Item) (f : StripFault) → extent_of i x ≡ Err f → told_word f ≡ i
-extent_here i (Head k w h) f e = order_here {A = ℕ × ℕ} i f e
-extent_here i (Cells m) f e = order_here {A = ℕ × ℕ} i f e
-extent_here i (Corner c r) f e = order_here {A = ℕ × ℕ} i f e
-extent_here i (Extent w h) f e = absurd cc
-extent_here i (Point p) f e = order_here {A = ℕ × ℕ} i f e
-extent_here i (Call q) f e = order_here {A = ℕ × ℕ} i f e
-extent_here i End f e = order_here {A = ℕ × ℕ} i f e
+extent_here i x f e = sym (ap told_word (extent_refused i x f e))
+
+pub step_refused : (i : ℕ) (x : Item) (f : StripFault) → is_step i x ≡ Err f → At OutOfOrder i ≡ f
+step_refused i (Head k w h) f e = err_is {A = Bool} (At OutOfOrder i) f e
+step_refused i (Cells m) f e = err_is {A = Bool} (At OutOfOrder i) f e
+step_refused i (Corner c r) f e = err_is {A = Bool} (At OutOfOrder i) f e
+step_refused i (Extent w h) f e = err_is {A = Bool} (At OutOfOrder i) f e
+step_refused i (Point p) f e = absurd cc
+step_refused i (Call q) f e = absurd cc
+step_refused i End f e = absurd cc
 
 step_here : (i : ℕ) (x : Item) (f : StripFault) → is_step i x ≡ Err f → told_word f ≡ i
-step_here i (Head k w h) f e = order_here {A = Bool} i f e
-step_here i (Cells m) f e = order_here {A = Bool} i f e
-step_here i (Corner c r) f e = order_here {A = Bool} i f e
-step_here i (Extent w h) f e = order_here {A = Bool} i f e
-step_here i (Point p) f e = absurd cc
-step_here i (Call q) f e = absurd cc
-step_here i End f e = absurd cc
+step_here i x f e = sym (ap told_word (step_refused i x f e))
 
 cell_by_here : (b : Bool) (i w : ℕ) (f : StripFault) → ◌≡◌ {A = Result ℕ StripFault} (cond b (Ok w) (Err (At NoCell i))) (Err f) → told_word f ≡ i
 cell_by_here true i w f e = absurd cc

@@ -5,8 +5,7 @@ use Rattle.strips.specs.Reading.{Left, from, ◌>>=◌, shape_due, count_due, ra
 use Rattle.strips.specs.declared.parts.Shape.{Shape}
 use Rattle.sheets.specs.declared.window.Rectangle.{Rectangle}
 use Rattle.strips.specs.declared.fault.StripFault.{StripFault}
-use Rattle.strips.proofs.Shapes.{bind_ok}
-use Rattle.strips.proofs.Told.{made}
+use Rattle.strips.proofs.Passed.{past_end, past_steps, past_window, past_raws, past_count, past_shape, passed}
 use Rattle.strips.proofs.Steady.{bind_err, bare, parts}
 
 -- a refusal comes of one of the parts, and those before it were passed
@@ -20,23 +19,17 @@ pub stopped : {P : Type 0} (n : ℕ) (ws : List ℕ) (f : StripFault) → job_fr
     → P
 unfolding job_from
 stopped n ws f e p1 p2 p3 p4 p5 p6 =
-    let sixth : Shape → ℕ × Left → Option Rectangle × Left → ℕ × Left → Left → Result Job StripFault = λ s c f k x. Ok (made s c.0 c.1.words f.0 k.0 f.1.words) in
-    let fifth : Shape → ℕ × Left → Option Rectangle × Left → ℕ × Left → Result Job StripFault = λ s c f k. ended n k.1 >>= sixth s c f k in
-    let fourth : Shape → ℕ × Left → Option Rectangle × Left → Result Job StripFault = λ s c f. steps_due f.1 >>= fifth s c f in
-    let third : Shape → ℕ × Left → Left → Result Job StripFault = λ s c r. window_due r >>= fourth s c in
-    let second : Shape → ℕ × Left → Result Job StripFault = λ s c. raws_due s.kind c.0 c.1 >>= third s c in
-    let first : Shape × Left → Result Job StripFault = λ s. count_due (s.0.width * s.0.height) s.1 >>= second s.0 in
-    elim (bind_err (shape_due (from 0 ws)) first f e) [
+    elim (bind_err (shape_due (from 0 ws)) (past_shape n) f e) [
       | inl h ↦ p1 h
-      | inr s ↦ elim (bind_err (count_due (s.0.0.width * s.0.0.height) s.0.1) (second s.0.0) f s.2) [
+      | inr s ↦ elim (bind_err (count_due (s.0.0.width * s.0.0.height) s.0.1) (past_count n s.0.0) f s.2) [
         | inl h ↦ p2 s.0 s.1 h
-        | inr c ↦ elim (bind_err (raws_due s.0.0.kind c.0.0 c.0.1) (third s.0.0 c.0) f c.2) [
+        | inr c ↦ elim (bind_err (raws_due s.0.0.kind c.0.0 c.0.1) (past_raws n s.0.0 c.0) f c.2) [
           | inl h ↦ p3 s.0 c.0 s.1 c.1 h
-          | inr r ↦ elim (bind_err (window_due r.0) (fourth s.0.0 c.0) f r.2) [
+          | inr r ↦ elim (bind_err (window_due r.0) (past_window n s.0.0 c.0) f r.2) [
             | inl h ↦ p4 s.0 c.0 r.0 s.1 c.1 r.1 h
-            | inr g ↦ elim (bind_err (steps_due g.0.1) (fifth s.0.0 c.0 g.0) f g.2) [
+            | inr g ↦ elim (bind_err (steps_due g.0.1) (past_steps n s.0.0 c.0 g.0) f g.2) [
               | inl h ↦ p5 s.0 c.0 r.0 g.0 s.1 c.1 r.1 g.1 h
-              | inr k ↦ elim (bind_err (ended n k.0.1) (sixth s.0.0 c.0 g.0 k.0) f k.2) [
+              | inr k ↦ elim (bind_err (ended n k.0.1) (past_end s.0.0 c.0 g.0 k.0) f k.2) [
                 | inl h ↦ p6 s.0 c.0 r.0 g.0 k.0 s.1 c.1 r.1 g.1 k.1 h
                 | inr x ↦ absurd (let q = x.2 in cc)
               ]
@@ -93,18 +86,6 @@ parts_refused n ws f e =
 
 -- an accepted strip passed the parts, and ended
 pub parts_passed : (n : ℕ) (ws : List ℕ) (j : Job) → job_from n ws ≡ Ok j → (m x : Left) × (parts (from 0 ws) ≡ Ok (tt, m)) × (ended n m ≡ Ok x)
-unfolding job_from
 parts_passed n ws j e =
-    let sixth : Shape → ℕ × Left → Option Rectangle × Left → ℕ × Left → Left → Result Job StripFault = λ s c f k x. Ok (made s c.0 c.1.words f.0 k.0 f.1.words) in
-    let fifth : Shape → ℕ × Left → Option Rectangle × Left → ℕ × Left → Result Job StripFault = λ s c f k. ended n k.1 >>= sixth s c f k in
-    let fourth : Shape → ℕ × Left → Option Rectangle × Left → Result Job StripFault = λ s c f. steps_due f.1 >>= fifth s c f in
-    let third : Shape → ℕ × Left → Left → Result Job StripFault = λ s c r. window_due r >>= fourth s c in
-    let second : Shape → ℕ × Left → Result Job StripFault = λ s c. raws_due s.kind c.0 c.1 >>= third s c in
-    let first : Shape × Left → Result Job StripFault = λ s. count_due (s.0.width * s.0.height) s.1 >>= second s.0 in
-    let s = bind_ok (shape_due (from 0 ws)) first j e in
-    let c = bind_ok (count_due (s.0.0.width * s.0.0.height) s.0.1) (second s.0.0) j s.2 in
-    let r = bind_ok (raws_due s.0.0.kind c.0.0 c.0.1) (third s.0.0 c.0) j c.2 in
-    let f = bind_ok (window_due r.0) (fourth s.0.0 c.0) j r.2 in
-    let k = bind_ok (steps_due f.0.1) (fifth s.0.0 c.0 f.0) j f.2 in
-    let x = bind_ok (ended n k.0.1) (sixth s.0.0 c.0 f.0 k.0) j k.2 in
-    (k.0.1, x.0, parts_5 ws s.0 c.0 r.0 f.0 (Ok k.0) s.1 c.1 r.1 f.1 k.1, x.1)
+    let P = passed n ws j e in
+    (P.k.1, P.x, parts_5 ws P.s P.c P.r P.f (Ok P.k) P.shape P.count P.raws P.window P.steps, P.end)

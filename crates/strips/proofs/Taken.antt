@@ -200,17 +200,26 @@ frame_fits x y c e fx corner-x fy extent-y = (subst Fits corner-x fx, subst Fits
 window_of : (i : ℕ) (ws : List ℕ) (one two : Rectangle × Left) → one ≡ two → TheWindow i ws (Some one.0) one.1 → TheWindow i ws (Some two.0) two.1
 window_of i ws one two p t = subst (λ (q : Rectangle × Left). TheWindow i ws (Some q.0) q.1) p t
 
+-- what is still to be done behind each part of a window
+abbrev past_frame : ℕ × ℕ → Item × Left → ℕ × ℕ → Result (Rectangle × Left) StripFault
+past_frame c y z = Ok (framed c z, y.1)
+
+abbrev pub past_extent : Left → ℕ × ℕ → Item × Left → Result (Rectangle × Left) StripFault
+past_extent x c y = extent_of x.place y.0 >>= past_frame c y
+
+abbrev past_due : Left → ℕ × ℕ → Result (Rectangle × Left) StripFault
+past_due x c = item_due x >>= past_extent x c
+
+abbrev pub past_corner : ℕ → Item × Left → Result (Rectangle × Left) StripFault
+past_corner i x = corner_of i x.0 >>= past_due x.1
+
 frame_takes : (i : ℕ) (ws : List ℕ) (f : Rectangle) (m : Left) → frame_due (from i ws) ≡ Ok (f, m) → TheWindow i ws (Some f) m
 unfolding frame_due
 frame_takes i ws f m e =
-    let fourth : ℕ × ℕ → Item × Left → ℕ × ℕ → Result (Rectangle × Left) StripFault = λ c y z. Ok (framed c z, y.1) in
-    let third : Left → ℕ × ℕ → Item × Left → Result (Rectangle × Left) StripFault = λ x c y. extent_of x.place y.0 >>= fourth c y in
-    let second : Left → ℕ × ℕ → Result (Rectangle × Left) StripFault = λ x c. item_due x >>= third x c in
-    let first : Item × Left → Result (Rectangle × Left) StripFault = λ x. corner_of i x.0 >>= second x.1 in
-    let a = bind_ok (item_due (from i ws)) first (f, m) e in
-    let b = bind_ok (corner_of i a.0.0) (second a.0.1) (f, m) a.2 in
-    let c = bind_ok (item_due a.0.1) (third a.0.1 b.0) (f, m) b.2 in
-    let d = bind_ok (extent_of a.0.1.place c.0.0) (fourth b.0 c.0) (f, m) c.2 in
+    let a = bind_ok (item_due (from i ws)) (past_corner i) (f, m) e in
+    let b = bind_ok (corner_of i a.0.0) (past_due a.0.1) (f, m) a.2 in
+    let c = bind_ok (item_due a.0.1) (past_extent a.0.1 b.0) (f, m) b.2 in
+    let d = bind_ok (extent_of a.0.1.place c.0.0) (past_frame b.0 c.0) (f, m) c.2 in
     let one : Rectangle × Left = (framed b.0 d.0, c.0.1) in
     let p = ok_is one (f, m) d.2 in
     let t = item_spelled i ws a.0.0 a.0.1 a.1 in
