@@ -32,7 +32,7 @@ fn fault_of(heap: Global, text: &str) -> Result<String, AllocError> {
 }
 
 #[test]
-fn a_job_that_cannot_be_read_is_told_by_its_line(rt: HostRuntime) -> Result<(), Fail> {
+fn a_part_that_is_missing_is_told_by_its_word(rt: HostRuntime) -> Result<(), Fail> {
     let table = [
         ("sheet\n7\nmask\n@\nthreshold 1\ncalls\n", "nothing"),
         (
@@ -43,6 +43,17 @@ fn a_job_that_cannot_be_read_is_told_by_its_line(rt: HostRuntime) -> Result<(), 
             "sheet\n7\nthreshold 1\nmask\n@\ncalls\n",
             "no line begins the threshold; a job has sheet, mask, threshold and calls, in this order",
         ),
+    ];
+    for (text, wanted) in table {
+        let fault = fault_of(rt.alloc(), text)?;
+        assert_eq!(rt; fault.as_str(), wanted);
+    }
+    Ok(())
+}
+
+#[test]
+fn a_sheet_that_cannot_be_read_is_told_by_its_line(rt: HostRuntime) -> Result<(), Fail> {
+    let table = [
         (
             "sheet\n\n7 8\n9\nmask\n@\nthreshold 1\ncalls\n",
             "line 4: this row has not as many cells as the first",
@@ -55,6 +66,17 @@ fn a_job_that_cannot_be_read_is_told_by_its_line(rt: HostRuntime) -> Result<(), 
             "sheet\nmask\n@\nthreshold 1\ncalls\n",
             "refused 9: the sheet is 0 by 0; each goes from 1 to 2048",
         ),
+    ];
+    for (text, wanted) in table {
+        let fault = fault_of(rt.alloc(), text)?;
+        assert_eq!(rt; fault.as_str(), wanted);
+    }
+    Ok(())
+}
+
+#[test]
+fn a_mask_that_cannot_be_made_is_told_by_its_drawing(rt: HostRuntime) -> Result<(), Fail> {
+    let table = [
         (
             "sheet\n7\nmask\nthreshold 1\ncalls\n",
             "the origin is not marked, @ where it is a point and o where it is not",
@@ -71,6 +93,19 @@ fn a_job_that_cannot_be_read_is_told_by_its_line(rt: HostRuntime) -> Result<(), 
             "sheet\n7\nmask\n@..............##\nthreshold 1\ncalls\n",
             "refused 8: line 4 column 17: the point lies more than 15 from the origin",
         ),
+    ];
+    for (text, wanted) in table {
+        let fault = fault_of(rt.alloc(), text)?;
+        assert_eq!(rt; fault.as_str(), wanted);
+    }
+    Ok(())
+}
+
+#[test]
+fn a_threshold_or_a_call_that_cannot_be_read_is_told_by_its_line(
+    rt: HostRuntime,
+) -> Result<(), Fail> {
+    let table = [
         (
             "sheet\n7\nmask\n@\nthreshold 0\ncalls\n",
             "line 5: a threshold is a whole number from 1 to 255",

@@ -28,10 +28,10 @@ fn spelled(heap: Global, words: &[u32]) -> Result<Vec<u8>, AllocError> {
     Ok(bytes)
 }
 
-// Whether these words are refused so.
-fn refused(heap: Global, words: &[u32], fault: StripFault) -> Result<bool, AllocError> {
+// Whether these words are refused on that ground, told of the word at that place.
+fn refused(heap: Global, words: &[u32], ground: Ground, place: usize) -> Result<bool, AllocError> {
     let bytes = spelled(heap, words)?;
-    Ok(read(bytes.as_slice()).is_err_and(|found| found == fault))
+    Ok(read(bytes.as_slice()).is_err_and(|found| found == StripFault::At(ground, place)))
 }
 
 // Whether these words are accepted.
@@ -113,19 +113,14 @@ fn a_window_and_a_mask_of_height_cells(rt: HostRuntime) -> Result<(), Fail> {
 
 #[test]
 fn a_word_that_is_due_stands_whole(rt: HostRuntime) -> Result<(), Fail> {
-    assert!(rt; refused(rt.alloc(), &[], StripFault::At(Ground::CutShort, 0))?);
-    assert!(rt;
-        refused(
-            rt.alloc(),
-            &[NO_SHEET, NO_CELLS],
-            StripFault::At(Ground::CutShort, 2)
-        )?
-    );
+    assert!(rt; refused(rt.alloc(), &[], Ground::CutShort, 0)?);
+    assert!(rt; refused(rt.alloc(), &[NO_SHEET, NO_CELLS], Ground::CutShort, 2)?);
     assert!(rt;
         refused(
             rt.alloc(),
             &[0x1100_1001, 0x2000_0001, 7],
-            StripFault::At(Ground::CutShort, 3)
+            Ground::CutShort,
+            3
         )?
     );
     assert_eq!(rt;
@@ -137,48 +132,40 @@ fn a_word_that_is_due_stands_whole(rt: HostRuntime) -> Result<(), Fail> {
 
 #[test]
 fn a_word_is_one_of_the_seven(rt: HostRuntime) -> Result<(), Fail> {
-    assert!(rt; refused(rt.alloc(), &[0], StripFault::At(Ground::NoWord, 0))?);
-    assert!(rt;
-        refused(
-            rt.alloc(),
-            &[0x8000_0000],
-            StripFault::At(Ground::NoWord, 0)
-        )?
-    );
+    assert!(rt; refused(rt.alloc(), &[0], Ground::NoWord, 0)?);
+    assert!(rt; refused(rt.alloc(), &[0x8000_0000], Ground::NoWord, 0)?);
     // An unused bit of a word that is not due is told first.
-    assert!(rt;
-        refused(
-            rt.alloc(),
-            &[0x3100_0000],
-            StripFault::At(Ground::NoWord, 0)
-        )?
-    );
+    assert!(rt; refused(rt.alloc(), &[0x3100_0000], Ground::NoWord, 0)?);
     assert!(rt;
         refused(
             rt.alloc(),
             &[NO_SHEET, NO_CELLS, 0x5000_0400],
-            StripFault::At(Ground::NoWord, 2)
+            Ground::NoWord,
+            2
         )?
     );
     assert!(rt;
         refused(
             rt.alloc(),
             &[NO_SHEET, NO_CELLS, 0x6000_0000],
-            StripFault::At(Ground::NoWord, 2)
+            Ground::NoWord,
+            2
         )?
     );
     assert!(rt;
         refused(
             rt.alloc(),
             &[NO_SHEET, NO_CELLS, 0x6000_0005],
-            StripFault::At(Ground::NoWord, 2)
+            Ground::NoWord,
+            2
         )?
     );
     assert!(rt;
         refused(
             rt.alloc(),
             &[NO_SHEET, NO_CELLS, 0x7000_0001],
-            StripFault::At(Ground::NoWord, 2)
+            Ground::NoWord,
+            2
         )?
     );
     Ok(())
@@ -186,50 +173,54 @@ fn a_word_is_one_of_the_seven(rt: HostRuntime) -> Result<(), Fail> {
 
 #[test]
 fn a_word_is_due_where_it_stands(rt: HostRuntime) -> Result<(), Fail> {
-    assert!(rt; refused(rt.alloc(), &[END], StripFault::At(Ground::OutOfOrder, 0))?);
+    assert!(rt; refused(rt.alloc(), &[END], Ground::OutOfOrder, 0)?);
     // A head that is not due is out of order, whatever its kind of cell.
-    assert!(rt;
-        refused(
-            rt.alloc(),
-            &[NO_SHEET, 0x1900_0000],
-            StripFault::At(Ground::OutOfOrder, 1)
-        )?
-    );
+    assert!(rt; refused(rt.alloc(), &[NO_SHEET, 0x1900_0000], Ground::OutOfOrder, 1)?);
     assert!(rt;
         refused(
             rt.alloc(),
             &[NO_SHEET, NO_CELLS, END, END],
-            StripFault::At(Ground::OutOfOrder, 3)
+            Ground::OutOfOrder,
+            3
         )?
     );
+    Ok(())
+}
+
+#[test]
+fn a_corner_and_an_extent_stand_before_the_steps(rt: HostRuntime) -> Result<(), Fail> {
     let corner = 0x3000_0000;
     let extent = 0x4000_1001;
     assert!(rt;
         refused(
             rt.alloc(),
             &[NO_SHEET, NO_CELLS, corner, END],
-            StripFault::At(Ground::OutOfOrder, 3)
+            Ground::OutOfOrder,
+            3
         )?
     );
     assert!(rt;
         refused(
             rt.alloc(),
             &[NO_SHEET, NO_CELLS, extent, END],
-            StripFault::At(Ground::OutOfOrder, 2)
+            Ground::OutOfOrder,
+            2
         )?
     );
     assert!(rt;
         refused(
             rt.alloc(),
             &[NO_SHEET, NO_CELLS, corner, extent, corner],
-            StripFault::At(Ground::OutOfOrder, 4)
+            Ground::OutOfOrder,
+            4
         )?
     );
     assert!(rt;
         refused(
             rt.alloc(),
             &[NO_SHEET, NO_CELLS, ORIGIN, corner],
-            StripFault::At(Ground::OutOfOrder, 3)
+            Ground::OutOfOrder,
+            3
         )?
     );
     Ok(())
@@ -251,40 +242,24 @@ fn bytes_behind_the_end_are_the_next_word(rt: HostRuntime) -> Result<(), Fail> {
 
 #[test]
 fn a_head_has_a_kind_and_its_count(rt: HostRuntime) -> Result<(), Fail> {
-    assert!(rt;
-        refused(
-            rt.alloc(),
-            &[0x1000_0000],
-            StripFault::At(Ground::NoKind, 0)
-        )?
-    );
-    assert!(rt;
-        refused(
-            rt.alloc(),
-            &[0x1500_0000],
-            StripFault::At(Ground::NoKind, 0)
-        )?
-    );
+    assert!(rt; refused(rt.alloc(), &[0x1000_0000], Ground::NoKind, 0)?);
+    assert!(rt; refused(rt.alloc(), &[0x1500_0000], Ground::NoKind, 0)?);
     assert!(rt;
         refused(
             rt.alloc(),
             &[0x1100_3001, 0x2000_0004],
-            StripFault::At(Ground::WrongCount, 1)
+            Ground::WrongCount,
+            1
         )?
     );
     // A count that is right, and too large for the strip, is told where a cell is missing or none.
-    assert!(rt;
-        refused(
-            rt.alloc(),
-            &[0x11ff_ffff, 0x20ff_e001],
-            StripFault::At(Ground::CutShort, 2)
-        )?
-    );
+    assert!(rt; refused(rt.alloc(), &[0x11ff_ffff, 0x20ff_e001], Ground::CutShort, 2)?);
     assert!(rt;
         refused(
             rt.alloc(),
             &[0x11ff_ffff, 0x20ff_e001, 256],
-            StripFault::At(Ground::NoCell, 2)
+            Ground::NoCell,
+            2
         )?
     );
     Ok(())
@@ -294,27 +269,16 @@ fn a_head_has_a_kind_and_its_count(rt: HostRuntime) -> Result<(), Fail> {
 fn a_raw_word_is_a_cell_of_its_kind(rt: HostRuntime) -> Result<(), Fail> {
     let one = 0x2000_0001;
     assert!(rt; accepted(rt.alloc(), &[0x1100_1001, one, 255, END])?);
-    assert!(rt;
-        refused(
-            rt.alloc(),
-            &[0x1100_1001, one, 256, END],
-            StripFault::At(Ground::NoCell, 2)
-        )?
-    );
-    assert!(rt;
-        refused(
-            rt.alloc(),
-            &[0x1300_1001, one, 256, END],
-            StripFault::At(Ground::NoCell, 2)
-        )?
-    );
+    assert!(rt; refused(rt.alloc(), &[0x1100_1001, one, 256, END], Ground::NoCell, 2)?);
+    assert!(rt; refused(rt.alloc(), &[0x1300_1001, one, 256, END], Ground::NoCell, 2)?);
     assert!(rt; accepted(rt.alloc(), &[0x1200_1001, one, 0xffff_ffff, END])?);
     assert!(rt; accepted(rt.alloc(), &[0x1400_1001, one, 0x7f80_0000, END])?);
     assert!(rt;
         refused(
             rt.alloc(),
             &[0x1400_1001, one, 0x7f80_0001, END],
-            StripFault::At(Ground::NoCell, 2)
+            Ground::NoCell,
+            2
         )?
     );
     assert!(rt; accepted(rt.alloc(), &[0x1400_1001, one, 0x8000_0000, END])?);
