@@ -2,4 +2,5 @@
 pub mod Signs
 pub mod Readings
 pub mod Drawn
+pub mod Told
 pub mod Pictures

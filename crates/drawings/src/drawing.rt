@@ -1,8 +1,9 @@
 // A drawing: the points that it draws, or what is wrong with it.
-ghost use Rattle.std.specs.Prelude.{◌≡◌, true, ◌++◌, map, is_ok, IfOk, string_bytes};
+ghost use Rattle.std.specs.Prelude.{◌≡◌, true, ◌++◌, map, is_ok, IfOk, Some, string_bytes};
 ghost use Rattle.drawings.specs.declared.drawing.DrawingFault.TheVariants.{Memory};
 ghost use Rattle.drawings.specs.Signs.{blank, is_sign, is_point, is_origin, line_marks, marks};
 ghost use Rattle.drawings.specs.Readings.{origin_of, point_marks, point_of, offset, origin_read, place_at, Reads};
+ghost use Rattle.drawings.specs.Told.{place_text, reading_text};
 
 use masks::point::Point;
 use std::alloc::{AllocError, Global};
@@ -37,12 +38,16 @@ pub enum DrawingFault {
 }
 
 impl fmt::Display for Place {
+    ghost output = { λ p. Some (place_text p) };
+
     fn fmt<W: fmt::Write>(&self, f: &mut fmt::Formatter<W>) -> fmt::Result {
         write!(f, "line {} column {}", self.line, self.column)
     }
 }
 
 impl fmt::Display for DrawingFault {
+    ghost output = { λ f. Some (reading_text f) };
+
     fn fmt<W: fmt::Write>(&self, f: &mut fmt::Formatter<W>) -> fmt::Result {
         match self {
             DrawingFault::OtherCharacter(place) => {

@@ -1,6 +1,7 @@
 // The mask that a drawing draws, or what is wrong with it.
 ghost use Rattle.std.specs.Prelude.{◌≡◌, Some};
 ghost use Rattle.drawings.specs.Drawn.{blamed, why_text, Masks};
+ghost use Rattle.drawings.specs.Told.{drawn_text};
 ghost use Rattle.drawings.specs.declared.drawn.DrawnFault.TheVariants.{Unread};
 
 use crate::drawing::{Drawing, DrawingFault, Place};
@@ -58,6 +59,8 @@ impl fmt::Display for Why {
 }
 
 impl fmt::Display for DrawnFault {
+    ghost output = { λ f. Some (drawn_text f) };
+
     fn fmt<W: fmt::Write>(&self, f: &mut fmt::Formatter<W>) -> fmt::Result {
         match self {
             DrawnFault::Unread(fault) => write!(f, "{fault}"),

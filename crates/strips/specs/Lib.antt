@@ -3,6 +3,7 @@ pub mod Words
 pub mod Kinds
 pub mod Items
 pub mod Faults
+pub mod Told
 pub mod Jobs
 pub mod Reading
 pub mod Views

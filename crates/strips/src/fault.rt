@@ -1,6 +1,7 @@
 // Why a strip is refused.
-ghost use Rattle.std.specs.Prelude.{◌≡◌};
+ghost use Rattle.std.specs.Prelude.{◌≡◌, Some};
 ghost use Rattle.strips.specs.Faults.{ground_number, number, told_word};
+ghost use Rattle.strips.specs.Told.{ground_text, wrong_text, fault_text};
 
 use std::fmt;
 
@@ -37,6 +38,8 @@ impl Ground {
 }
 
 impl fmt::Display for Ground {
+    ghost output = { λ g. Some (ground_text g) };
+
     fn fmt<W: fmt::Write>(&self, f: &mut fmt::Formatter<W>) -> fmt::Result {
         f.write_str(match self {
             Ground::CutShort => "a word is due, and fewer than four bytes stand there",
@@ -81,11 +84,25 @@ impl StripFault {
 }
 
 impl fmt::Display for StripFault {
+    ghost output = { λ f. Some (fault_text f) };
+
     fn fmt<W: fmt::Write>(&self, f: &mut fmt::Formatter<W>) -> fmt::Result {
         let number = self.number();
         let word = self.word();
-        write!(f, "refused {number}: word {word}: ")?;
-        match self {
+        let wrong = Wrong(*self);
+        write!(f, "refused {number}: word {word}: {wrong}")
+    }
+}
+
+// What is wrong with a strip.
+#[derive(Clone, Copy)]
+struct Wrong(StripFault);
+
+impl fmt::Display for Wrong {
+    ghost output = { λ w. Some (wrong_text w.0) };
+
+    fn fmt<W: fmt::Write>(&self, f: &mut fmt::Formatter<W>) -> fmt::Result {
+        match self.0 {
             StripFault::TooLong => f.write_str("a strip has at most 65536 bytes"),
             StripFault::At(ground, _) => write!(f, "{ground}"),
         }

@@ -1,8 +1,9 @@
 // What can keep a program from its work, and the line that says so.
-ghost use Rattle.std.specs.Prelude.{◌≡◌};
+ghost use Rattle.std.specs.Prelude.{◌≡◌, Some};
 ghost use Rattle.drawings.specs.declared.drawn.DrawnFault.TheVariants.{Unread as UnreadDrawing};
 ghost use Rattle.texts.specs.declared.sheet.SheetFault.TheVariants.{WrongSize as WrongSheet};
 ghost use Rattle.texts.specs.declared.fault.JobFault.TheVariants.{Missing as MissingPart, Sheet, Drawn, Input, Memory, Unwritten};
+ghost use Rattle.texts.specs.Faults.{fault_text};
 
 use crate::input::InputFault;
 use crate::part::Missing;
@@ -125,6 +126,8 @@ impl From<io::Error> for JobFault {
 }
 
 impl fmt::Display for ToldJobFault {
+    ghost output = { λ t. Some (fault_text t.fault t.words) };
+
     fn fmt<W: fmt::Write>(&self, f: &mut fmt::Formatter<W>) -> fmt::Result {
         let words = self.words;
         match self.fault {

@@ -1,6 +1,7 @@
 // The lines of a job, each with its number.
 ghost use Rattle.std.specs.Prelude.{◌≡◌, map, IfOk, string_bytes};
 ghost use Rattle.texts.specs.Lines.{told, numbered_from, lines_before, drawn_from};
+ghost use Rattle.texts.specs.Settings.{IsAlone};
 
 use std::alloc::{AllocError, Global};
 use std::str::FromStr;
@@ -50,15 +51,32 @@ fn lines_before(lines: &[Line]) -> usize
 }
 
 impl Line<'_> {
+    ghost use Rattle.texts.specs.Settings.{Valued};
+
     // The value of a setting, where its word is followed by one word more and that is a value.
     pub fn value<T: FromStr>(self) -> Option<T>
     where
         T::Err: Drop,
+        ensures { Valued T.FromStr.from_str_gives self.entry.text.now result }
     {
-        let mut words = self.text.split_whitespace();
-        match (words.next(), words.next(), words.next()) {
-            (Some(_), Some(word), None) => word.parse::<T>().ok(),
-            _ => None,
+        match alone(self.text) {
+            Some(word) => word.parse::<T>().ok(),
+            None => None,
         }
+    }
+}
+
+// The word behind the first of a line, where no other follows.
+fn alone(text: &str) -> Option<&str>
+    ensures { IsAlone text.now result }
+{
+    let mut words = text.split_whitespace();
+    let first = words.next();
+    let second = words.next();
+    let third = words.next();
+    if first.is_some() && third.is_none() {
+        second
+    } else {
+        None
     }
 }

@@ -1,6 +1,6 @@
 // The masks of a job.
-ghost use Rattle.std.specs.Prelude.{IfOk};
-ghost use Rattle.texts.specs.Masks.{Draws};
+ghost use Rattle.std.specs.Prelude.{IfOk, IfErr};
+ghost use Rattle.texts.specs.Masks.{Draws, Undrawn};
 
 use crate::fault::JobFault;
 use crate::line::{Line, drawn_lines};
@@ -11,7 +11,8 @@ use std::alloc::Global;
 
 // The mask that is drawn in the lines.
 pub fn read_mask(alloc: Global, lines: &[Line]) -> Result<Mask, JobFault>
-    ensures { IfOk result (Draws lines.now) }
+    ensures mask { IfOk result (Draws lines.now) }
+    ensures fault { IfErr result (Undrawn lines.now) }
 {
     let drawn = drawn_lines(alloc, lines)?;
     let drawing = Drawing::read(alloc, drawn.as_slice())?;

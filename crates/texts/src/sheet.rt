@@ -1,5 +1,7 @@
 // The sheet of a job.
-ghost use Rattle.std.specs.Prelude.{◌≡◌, ◌≤◌, ◌<◌, IfOk};
+ghost use Rattle.std.specs.Prelude.{◌≡◌, ◌≤◌, ◌<◌, ◌^◌, IfOk, IfErr, Some, None};
+ghost use Rattle.texts.specs.Faults.{sheet_text};
+ghost use Rattle.texts.specs.Sheets.{IsRow, RowFault, agrees, grown, none, Grid, GridFault, SheetRead};
 
 use crate::line::Line;
 use crate::size::{WrongSize, sized};
@@ -22,6 +24,8 @@ pub enum SheetFault {
 }
 
 impl fmt::Display for SheetFault {
+    ghost output = { λ f. Some (sheet_text f None) };
+
     fn fmt<W: fmt::Write>(&self, f: &mut fmt::Formatter<W>) -> fmt::Result {
         match self {
             SheetFault::NoCell(line) => write!(f, "line {line}: a word is no cell"),
@@ -65,6 +69,7 @@ where
     T::Err: Drop,
     ensures width { IfOk result (λ p. (1 ≤ p.0.width) × (p.0.width ≤ 2048)) }
     ensures height { IfOk result (λ p. (1 ≤ p.0.height) × (p.0.height ≤ 2048)) }
+    ensures read { SheetRead T.FromStr.from_str_gives lines.now result }
 {
     let mut cells = Vec::new(alloc);
     let size = sized(read_rows(lines, &mut cells)?)?;
@@ -75,33 +80,55 @@ where
 fn read_rows<T: FromStr + Drop>(lines: &[Line], cells: &mut Vec<T>) -> Result<Size, SheetFault>
 where
     T::Err: Drop,
-    ensures { IfOk result (λ s. 0 < s.height → 0 < s.width) }
+    ensures rows { IfOk result (λ s. Grid T.FromStr.from_str_gives lines.now none cells.old.items s cells.new.items) }
+    ensures fault { IfErr result (λ e. GridFault T.FromStr.from_str_gives lines.now none cells.old.items e) }
 {
     let mut size = Size::NONE;
     for line in lines {
         let width = read_row(*line, cells)?;
-        if width > 0 {
-            if size.height > 0 && width != size.width {
-                return Err(SheetFault::UnlikeRow(line.number));
-            }
-            size.width = width;
-            size.height = size.height.saturating_add(1);
+        if !agrees(width, size) {
+            return Err(SheetFault::UnlikeRow(line.number));
         }
+        size = grown(width, size);
     }
     Ok(size)
+}
+
+// Whether a row of so many cells may stand below a sheet of the size.
+fn agrees(n: usize, size: Size) -> bool
+    ensures { result ≡ agrees n size }
+{
+    n == 0 || size.height == 0 || n == size.width
+}
+
+// The size with a row of so many cells more, if it is one.
+fn grown(n: usize, size: Size) -> Size
+    requires { size.height < 2 ^ 63 }
+    ensures { result ≡ grown n size }
+{
+    if n == 0 {
+        size
+    } else {
+        Size {
+            width: n,
+            height: size.height + 1,
+        }
+    }
 }
 
 // Takes in a row, and answers how many cells it has.
 fn read_row<T: FromStr + Drop>(line: Line, cells: &mut Vec<T>) -> Result<usize, SheetFault>
 where
     T::Err: Drop,
+    ensures row { IfOk result (λ n. IsRow T.FromStr.from_str_gives line.entry.text.now n cells.old.items cells.new.items) }
+    ensures fault { IfErr result (RowFault T.FromStr.from_str_gives line.entry) }
 {
     let before = cells.len();
     for word in line.text.split_whitespace() {
-        let cell = word
-            .parse::<T>()
-            .map_err(|_| SheetFault::NoCell(line.number))?;
-        cells.push(cell)?;
+        match word.parse::<T>() {
+            Ok(cell) => cells.push(cell)?,
+            Err(_) => return Err(SheetFault::NoCell(line.number)),
+        }
     }
     Ok(cells.len().saturating_sub(before))
 }
