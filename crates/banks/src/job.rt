@@ -1,8 +1,12 @@
 // A job as text: a grid of heights, the mask of a mid, the fore and the back mask of a find, and the length of a list.
+ghost use Rattle.std.specs.Prelude.{MatchResult};
+ghost use Rattle.banks.specs.Lists.{IsLength, NoLength};
+
 use cells::height::Height;
 use masks::mask::Mask;
 use sheets::holder::Size;
 use std::alloc::Global;
+use std::str::FromStr;
 use texts::fault::{JobFault, Words};
 use texts::line::{Line, numbered};
 use texts::mask::read_mask;
@@ -69,11 +73,15 @@ impl Job {
 }
 
 // How many places the list has.
-fn read_list(line: Line) -> Result<usize, JobFault> {
-    line.value::<usize>()
-        .filter(|places| *places <= MOST_PLACES)
-        .ok_or(JobFault::NotAs {
-            line: line.number,
-            rule: LIST_RULE,
-        })
+fn read_list(line: Line) -> Result<usize, JobFault>
+    ensures { MatchResult result (IsLength ⟦<usize as FromStr>⟧.from_str_gives line.entry.text.now) (NoLength ⟦<usize as FromStr>⟧.from_str_gives line.entry) }
+{
+    let fault = JobFault::NotAs {
+        line: line.number,
+        rule: LIST_RULE,
+    };
+    match line.value::<usize>() {
+        Some(places) if places <= MOST_PLACES => Ok(places),
+        _ => Err(fault),
+    }
 }

@@ -3,10 +3,14 @@
 --     done q           what a filter of the sort q does to a sheet
 --     sheet_name s     the name of a sheet
 --     reason s         which filters were accepted where the sheet s stands
-use Rattle.std.specs.Prelude.{ℕ, List, [], ◌++◌, codes, Some, None, Option}
+--     first_of s       the sort of the first of them, if there is one
+--     went_ahead a     a is the answer to a filter that went ahead
+use Rattle.std.specs.Prelude.{ℕ, Bool, true, false, List, [], ◌++◌, codes, Some, None, Option}
 use Rattle.std.specs.Fmt.{decimal}
 use Rattle.morphology.specs.Calls.{filter_name}
 use Rattle.morphology.specs.Standing.{filter_of, other}
+use Rattle.morphology.specs.declared.call.Answer.{Answer}
+use Rattle.morphology.specs.declared.call.Answer.TheVariants.{Laid, Picks, Refused}
 use Rattle.morphology.specs.declared.standing.Sort.{Sort}
 use Rattle.morphology.specs.declared.standing.Sort.TheVariants.{Opening, Closing}
 use Rattle.morphology.specs.declared.standing.Standing.{Standing}
@@ -44,3 +48,15 @@ reason (Twice q) =
 reason (Thrice q) =
     codes "the first and the last " ++ sort_name q ++ codes ", with " ++ sort_name (other q) ++ codes " between them, so the sheet is "
     ++ done q ++ codes ", " ++ done (other q) ++ codes " and " ++ done q ++ codes " again"
+
+abbrev pub first_of : Standing → Option Sort
+first_of Loaded = None
+first_of (Once q) = Some q
+first_of (Twice q) = Some q
+first_of (Thrice q) = Some q
+
+-- it made picks
+abbrev pub went_ahead : Answer → Bool
+went_ahead Laid = false
+went_ahead (Picks n) = true
+went_ahead (Refused r) = false

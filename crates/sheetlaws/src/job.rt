@@ -1,5 +1,6 @@
 // A job as text: a gray sheet, a mask, a threshold, and a list of openings and closings.
-ghost use Rattle.std.specs.Prelude.{◌≡◌, Some};
+ghost use Rattle.std.specs.Prelude.{◌≡◌, MatchResult, Some};
+ghost use Rattle.sheetlaws.specs.Reading.{sort_named, IsThreshold, NoThreshold};
 
 use cells::gray::Gray;
 use cells::threshold::Threshold;
@@ -10,6 +11,7 @@ use morphology::standing::Sort;
 use sheets::holder::Size;
 use std::alloc::Global;
 use std::fmt;
+use std::str::FromStr;
 use texts::fault::{JobFault, Words};
 use texts::line::{Line, numbered};
 use texts::mask::read_mask;
@@ -111,13 +113,17 @@ impl fmt::Display for Pass {
 }
 
 // The level that follows the word `threshold`.
-fn read_threshold(line: Line) -> Result<Threshold, JobFault> {
-    line.value::<u8>()
-        .and_then(Threshold::new)
-        .ok_or(JobFault::NotAs {
-            line: line.number,
-            rule: THRESHOLD_RULE,
-        })
+fn read_threshold(line: Line) -> Result<Threshold, JobFault>
+    ensures { MatchResult result (IsThreshold ⟦<u8 as FromStr>⟧.from_str_gives line.entry.text.now) (NoThreshold ⟦<u8 as FromStr>⟧.from_str_gives line.entry) }
+{
+    let fault = JobFault::NotAs {
+        line: line.number,
+        rule: THRESHOLD_RULE,
+    };
+    match line.value::<u8>() {
+        Some(level) => Threshold::new(level).ok_or(fault),
+        None => Err(fault),
+    }
 }
 
 // The calls, each in a line of its own.
@@ -150,7 +156,9 @@ fn read_call(line: Line) -> Result<Option<Pass>, JobFault> {
 }
 
 // The sort of a call.
-fn sort_of(name: &str) -> Option<Sort> {
+fn sort_of(name: &str) -> Option<Sort>
+    ensures { result ≡ sort_named name.now }
+{
     match name {
         "open" => Some(Sort::Opening),
         "close" => Some(Sort::Closing),

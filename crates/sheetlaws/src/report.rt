@@ -1,4 +1,7 @@
 // What is told of a job, as values.
+ghost use Rattle.std.specs.Prelude.{◌≡◌, length, filter};
+ghost use Rattle.sheetlaws.specs.Names.{first_of, went_ahead};
+
 use crate::album::Album;
 use crate::job::{Job, Pass};
 use crate::outcome::{Outcome, thresholded};
@@ -89,7 +92,9 @@ impl Report {
     }
 
     // How many calls were not refused.
-    pub fn accepted(&self) -> usize {
+    pub fn accepted(&self) -> usize
+        ensures { result ≡ length (filter (λ s. went_ahead s.answer) self.now.steps.items) }
+    {
         self.steps
             .iter()
             .filter(|step| matches!(&step.answer, Answer::Picks(_)))
@@ -118,7 +123,9 @@ fn families(heap: Global, job: &Job, standing: Standing) -> Result<Vec<Family>, 
 }
 
 // The sort of the filter that came first, if any did.
-fn first_of(standing: Standing) -> Option<Sort> {
+fn first_of(standing: Standing) -> Option<Sort>
+    ensures { result ≡ first_of standing }
+{
     match standing {
         Standing::Loaded => None,
         Standing::Once(first) | Standing::Twice(first) | Standing::Thrice(first) => Some(first),

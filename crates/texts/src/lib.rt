@@ -27,3 +27,5 @@ pub mod fault;
 
 // How a program ends.
 pub mod ending;
+#[cfg(test)]
+mod tests;

@@ -1,0 +1,204 @@
+// The line that each program tells of a fault, for each ground once.
+use crate::fault::{JobFault, ToldJobFault, Words};
+use crate::input::InputFault;
+use crate::line::Line;
+use crate::part::{Missing, Part};
+use crate::sheet::SheetFault;
+use crate::size::WrongSize;
+use drawings::drawing::{DrawingFault, Place};
+use drawings::drawn::DrawnFault;
+use masks::fault::MaskFault;
+use sheets::holder::Size;
+use std::test::Fail;
+
+// The words of a program whose jobs have parts and a sheet.
+const WITH_PARTS: Words = Words {
+    program: "sheets",
+    parts: Some("sheet and mask"),
+    cells: Some("whole numbers"),
+    no_text: "the job is no text",
+    unread: "the job cannot be read",
+    unwritten: "the listing cannot be written",
+};
+
+// Those of a program that has neither.
+const WITHOUT: Words = Words {
+    program: "masks",
+    parts: None,
+    cells: None,
+    no_text: "the drawing is no text",
+    unread: "the drawing cannot be read",
+    unwritten: "the plan cannot be written",
+};
+
+const WIDE: Size = Size {
+    width: 2049,
+    height: 1,
+};
+
+const AT: Place = Place { line: 4, column: 2 };
+
+// Every ground, with the line of either program.
+const LINES: [(JobFault, &str, &str); 16] = [
+    (
+        JobFault::Arguments("usage: masks WIDTH"),
+        "usage: masks WIDTH",
+        "usage: masks WIDTH",
+    ),
+    (
+        JobFault::Missing(Missing(Part::Heading("mask"))),
+        "no line begins the mask; a job has sheet and mask, in this order",
+        "no line begins the mask",
+    ),
+    (
+        JobFault::Missing(Missing(Part::Setting("list"))),
+        "no line begins the list; a job has sheet and mask, in this order",
+        "no line begins the list",
+    ),
+    (
+        JobFault::Sheet(SheetFault::NoCell(3)),
+        "line 3: a row of the sheet has whole numbers",
+        "line 3: a word is no cell",
+    ),
+    (
+        JobFault::Sheet(SheetFault::UnlikeRow(12)),
+        "line 12: this row has not as many cells as the first",
+        "line 12: this row has not as many cells as the first",
+    ),
+    (
+        JobFault::Sheet(SheetFault::WrongSize(WrongSize(WIDE))),
+        "refused 9: the sheet is 2049 by 1; each goes from 1 to 2048",
+        "refused 9: the sheet is 2049 by 1; each goes from 1 to 2048",
+    ),
+    (
+        JobFault::Sheet(SheetFault::Memory),
+        "there is not enough memory",
+        "there is not enough memory",
+    ),
+    (
+        JobFault::Drawn(DrawnFault::Unread(DrawingFault::OtherCharacter(AT))),
+        "line 4 column 2: a drawing has only # . @ and o",
+        "line 4 column 2: a drawing has only # . @ and o",
+    ),
+    (
+        JobFault::Drawn(DrawnFault::Unread(DrawingFault::NoOrigin)),
+        "the origin is not marked, @ where it is a point and o where it is not",
+        "the origin is not marked, @ where it is a point and o where it is not",
+    ),
+    (
+        JobFault::Drawn(DrawnFault::Unread(DrawingFault::SecondOrigin(AT))),
+        "line 4 column 2: the origin is marked a second time",
+        "line 4 column 2: the origin is marked a second time",
+    ),
+    (
+        JobFault::Drawn(DrawnFault::Refused(MaskFault::NoPoints, None)),
+        "refused 7: the drawing has no point",
+        "refused 7: the drawing has no point",
+    ),
+    (
+        JobFault::Drawn(DrawnFault::Refused(MaskFault::Beyond(1), Some(AT))),
+        "refused 8: line 4 column 2: the point lies more than 15 from the origin",
+        "refused 8: line 4 column 2: the point lies more than 15 from the origin",
+    ),
+    (
+        JobFault::NotAs {
+            line: 7,
+            rule: "a list has a whole number of places",
+        },
+        "line 7: a list has a whole number of places",
+        "line 7: a list has a whole number of places",
+    ),
+    (
+        JobFault::Input(InputFault::NoText),
+        "the job is no text",
+        "the drawing is no text",
+    ),
+    (
+        JobFault::Input(InputFault::Unread),
+        "the job cannot be read",
+        "the drawing cannot be read",
+    ),
+    (
+        JobFault::Unwritten,
+        "the listing cannot be written",
+        "the plan cannot be written",
+    ),
+];
+
+#[test]
+fn each_fault_has_its_line(rt: HostRuntime) -> Result<(), Fail> {
+    for (fault, wanted, without) in LINES {
+        let told = ToldJobFault {
+            fault,
+            words: WITH_PARTS,
+        };
+        let line = told.to_string(rt.alloc())?;
+        assert_eq!(rt; line.as_str(), wanted);
+        let told = ToldJobFault {
+            fault,
+            words: WITHOUT,
+        };
+        let line = told.to_string(rt.alloc())?;
+        assert_eq!(rt; line.as_str(), without);
+    }
+    Ok(())
+}
+
+// Want of memory has one line, wherever it was.
+#[test]
+fn want_of_memory_has_one_line(rt: HostRuntime) -> Result<(), Fail> {
+    let wants = [
+        JobFault::Memory,
+        JobFault::Input(InputFault::Memory),
+        JobFault::Sheet(SheetFault::Memory),
+        JobFault::Drawn(DrawnFault::Unread(DrawingFault::Memory)),
+    ];
+    for fault in wants {
+        let told = ToldJobFault {
+            fault,
+            words: WITH_PARTS,
+        };
+        let line = told.to_string(rt.alloc())?;
+        assert_eq!(rt; line.as_str(), "there is not enough memory");
+    }
+    Ok(())
+}
+
+// A fault that is told by itself has the line of a program without words for cells.
+#[test]
+fn a_sheet_fault_has_its_line(rt: HostRuntime) -> Result<(), Fail> {
+    let lines = [
+        (SheetFault::NoCell(3), "line 3: a word is no cell"),
+        (
+            SheetFault::UnlikeRow(4),
+            "line 4: this row has not as many cells as the first",
+        ),
+        (
+            SheetFault::WrongSize(WrongSize(WIDE)),
+            "refused 9: the sheet is 2049 by 1; each goes from 1 to 2048",
+        ),
+        (SheetFault::Memory, "there is not enough memory"),
+    ];
+    for (fault, wanted) in lines {
+        let line = fault.to_string(rt.alloc())?;
+        assert_eq!(rt; line.as_str(), wanted);
+    }
+    Ok(())
+}
+
+// The value of a setting is the one word behind the first.
+#[test]
+fn a_setting_has_one_value(rt: HostRuntime) {
+    let values: [(&str, Option<usize>); 6] = [
+        ("list 3", Some(3)),
+        ("  list   0003  ", Some(3)),
+        ("list", None),
+        ("list 3 4", None),
+        ("list three", None),
+        ("", None),
+    ];
+    for (text, wanted) in values {
+        let line = Line { number: 1, text };
+        assert_eq!(rt; line.value::<usize>(), wanted);
+    }
+}
