@@ -24,3 +24,6 @@ fn run(rt: &HostRuntime) -> Result<(), JobFault> {
     let job = Job::read(rt.alloc(), lines.as_slice())?;
     Listing { rt, job: &job }.print()
 }
+
+#[cfg(test)]
+mod tests;

@@ -73,3 +73,6 @@ fn size(rt: &HostRuntime) -> Result<Size, JobFault> {
 fn number_of(word: &str, rule: &'static str) -> Result<usize, JobFault> {
     word.parse::<usize>().map_err(|_| JobFault::Arguments(rule))
 }
+
+#[cfg(test)]
+mod tests;

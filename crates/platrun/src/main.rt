@@ -36,3 +36,6 @@ fn input(rt: &HostRuntime) -> Result<Vec<u8>, InputFault> {
     rt.reader().read_to_end(&mut bytes)?;
     Ok(bytes)
 }
+
+#[cfg(test)]
+mod tests;

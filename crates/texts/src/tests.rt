@@ -1,4 +1,5 @@
 // The line that each program tells of a fault, for each ground once.
+use crate::ending::ended;
 use crate::fault::{JobFault, ToldJobFault, Words};
 use crate::input::InputFault;
 use crate::line::Line;
@@ -9,7 +10,11 @@ use drawings::drawing::{DrawingFault, Place};
 use drawings::drawn::DrawnFault;
 use masks::fault::MaskFault;
 use sheets::holder::Size;
+use std::alloc::Global;
+use std::cell::RefCell;
+use std::fmt::Write;
 use std::test::Fail;
+use std::{fmt, io};
 
 // The words of a program whose jobs have parts and a sheet.
 const WITH_PARTS: Words = Words {
@@ -201,4 +206,50 @@ fn a_setting_has_one_value(rt: HostRuntime) {
         let line = Line { number: 1, text };
         assert_eq!(rt; line.value::<usize>(), wanted);
     }
+}
+
+// Keeps what is printed on standard error.
+#[derive(Drop)]
+struct Kept {
+    text: RefCell<String>,
+}
+
+impl Eprint for Kept {
+    fn eprint<D: fmt::Display + Drop>(&self, value: D) -> io::Result<()> {
+        if let Ok(mut text) = self.text.try_borrow_mut() {
+            let _ = write!(text, "{value}");
+        }
+        Ok(())
+    }
+
+    fn eprintln<D: fmt::Display + Drop>(&self, value: D) -> io::Result<()> {
+        if let Ok(mut text) = self.text.try_borrow_mut() {
+            let _ = writeln!(text, "{value}");
+        }
+        Ok(())
+    }
+}
+
+// What a program that ends so prints on standard error.
+fn printed(heap: Global, outcome: Result<(), JobFault>) -> String {
+    let kept = Kept {
+        text: RefCell::new(String::new(heap)),
+    };
+    let _ = ended(&kept, WITH_PARTS, outcome);
+    kept.text.into_inner()
+}
+
+// One line: the program's name, and the fault.
+#[test]
+fn a_program_that_fails_prints_one_line(rt: HostRuntime) {
+    let line = printed(
+        rt.alloc(),
+        Err(JobFault::Missing(Missing(Part::Heading("mask")))),
+    );
+    assert_eq!(rt;
+        line.as_str(),
+        "sheets: no line begins the mask; a job has sheet and mask, in this order\n"
+    );
+    let nothing = printed(rt.alloc(), Ok(()));
+    assert_eq!(rt; nothing.as_str(), "");
 }

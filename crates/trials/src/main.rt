@@ -37,3 +37,6 @@ fn list(rt: &HostRuntime, text: &str) -> anyhow::Result<()> {
     }
     Ok(())
 }
+
+#[cfg(test)]
+mod tests;
