@@ -5,6 +5,7 @@ use crate::kind::Kind;
 
 // The marks, each a bit of the byte.
 #[derive(Clone, Copy, PartialEq, Eq, Debug)]
+#[repr(C)]
 pub struct Flags(pub u8);
 
 impl Kind for Flags {

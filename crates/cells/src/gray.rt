@@ -4,6 +4,7 @@ ghost use Rattle.cells.specs.Kinds.{GrayCell, grays, gray_cell};
 use crate::kind::{Kind, Measured, Ranked};
 
 #[derive(Clone, Copy, PartialEq, Eq, PartialOrd, Ord, Debug)]
+#[repr(C)]
 pub struct Gray(pub u8);
 
 impl Kind for Gray {

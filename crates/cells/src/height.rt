@@ -6,6 +6,7 @@ ghost use Rattle.cells.specs.Kinds.{HeightCell, heights, height_cell};
 use crate::kind::{Kind, Measured, Ranked};
 
 #[derive(Clone, Copy, PartialEq, Eq, PartialOrd, Ord, Debug)]
+#[repr(C)]
 pub struct Height(pub i32);
 
 impl Kind for Height {

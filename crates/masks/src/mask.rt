@@ -12,6 +12,7 @@ use crate::point::Point;
 // A mask: a flat structuring element with its origin at the point (0, 0), never without a point. Its rows are words, the
 // northmost first, with a bit for each column from the left.
 #[derive(Clone, Copy)]
+#[repr(C)]
 pub struct Mask {
     pub(crate) rows: [u32; 31],
     ghost some: { points rows 31 ≢ [] },

@@ -2,6 +2,7 @@
 
 // An offset from the origin: u columns to the right, v rows downward.
 #[derive(Clone, Copy, PartialEq, Eq, Debug)]
+#[repr(C)]
 pub struct Point {
     pub u: i32,
     pub v: i32,
