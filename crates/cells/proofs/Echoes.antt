@@ -49,3 +49,7 @@ counted_back b = to_bits-of_bits binary32 (counted b) (counted_below b) (false_n
 -- bits that are what b counts as mean the cell that b means
 pub return_same : (b r : ℕ) → r ≡ counted b → return_cell r ≡ return_cell b
 return_same b r e = ap return_cell e ∙ ap (λ (n : ℕ). clamped (rank 0xff800000) (rank 0x7f800000) return_bounds (rank n)) (counted_again b)
+
+-- bits that rank no higher count as bits that rank no higher
+pub counted_in_order : (a b : ℕ) → rank a ≤ℤ rank b → rank (counted a) ≤ℤ rank (counted b)
+counted_in_order a b l = grind (arith, ints, nat_tests, l)

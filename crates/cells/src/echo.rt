@@ -7,6 +7,7 @@ use crate::kind::{Kind, Ranked};
 
 // A return as it lies in memory: the bits of a float, of which any may stand here.
 #[derive(Clone, Copy, PartialEq, Eq, Debug)]
+#[repr(C)]
 pub struct ReturnBits(pub u32);
 
 // A return: a strength that is a number and not the negative zero.
@@ -18,8 +19,8 @@ pub struct Return {
 }
 
 impl Return {
-    // The whole number by which returns are ordered. It is the word of the definitions, so that a derived order, by the float, would
-    // have to be shown to be the same.
+    // The whole number by which returns are ordered. It is promised by itself, so that a derived order, by the float, would only
+    // stand beside it.
     pub fn rank(self) -> i32
         ensures { result ≡ rank (to_bits binary32 self.strength) }
     {
@@ -54,25 +55,24 @@ impl Kind for ReturnBits {
 
     ghost means = { λ r. return_cell r.0 };
 
-    // By `min_by_key` and `max_by_key`, that the key of the closure is the rank would stay open.
+    // Stored bits rank as what they count as does, so that one return has to be made and not two. By `min_by_key` and
+    // `max_by_key`, that the key of the closure is the rank stays open.
     fn meet(self, other: ReturnBits) -> ReturnBits {
-        let a = Return::from(self);
-        let b = Return::from(other);
-        if b.rank() < a.rank() {
-            ReturnBits::from(b)
+        let lower = if rank_of(other.0) < rank_of(self.0) {
+            other
         } else {
-            ReturnBits::from(a)
-        }
+            self
+        };
+        ReturnBits::from(Return::from(lower))
     }
 
     fn join(self, other: ReturnBits) -> ReturnBits {
-        let a = Return::from(self);
-        let b = Return::from(other);
-        if a.rank() > b.rank() {
-            ReturnBits::from(a)
+        let higher = if rank_of(other.0) > rank_of(self.0) {
+            other
         } else {
-            ReturnBits::from(b)
-        }
+            self
+        };
+        ReturnBits::from(Return::from(higher))
     }
 
     fn least() -> ReturnBits {
@@ -95,13 +95,11 @@ fn counted_bits(b: u32) -> u32
     ensures { result ≡ counted b }
 {
     if b < 0x8000_0000 {
-        if b <= 0x7f80_0000 { b } else { 0x7f80_0000 }
+        b.min(0x7f80_0000)
     } else if b == 0x8000_0000 {
         0
-    } else if b <= 0xff80_0000 {
-        b
     } else {
-        0xff80_0000
+        b.min(0xff80_0000)
     }
 }
 

@@ -1,23 +1,23 @@
--- The return of the smaller rank is the one that the test chose.
-use Rattle.std.proofs.Common.{◌≡◌, ◌≤ℤ◌, ap, ◌∙◌, arith}
+-- The bits of the lower rank count as the return of the lower rank.
+use Rattle.std.proofs.Common.{◌≤ℤ◌, ap, ◌∙◌, arith}
 use Rattle.std.proofs.lemmas.Int.{ints}
-use Rattle.cells.specs.Kinds.{rank, counted, return_bounds}
+use Rattle.cells.specs.Kinds.{rank, counted, return_bounds, return_cell}
+use Rattle.cells.specs.declared.echo.ReturnBits.{ReturnBits}
 use Rattle.cells.proofs.Chains.{smaller_first, smaller_second}
-use Rattle.cells.proofs.Echoes.{return_same}
+use Rattle.cells.proofs.Echoes.{return_same, counted_in_order}
+use Rattle.cells.proofs.echo.ReturnBitsKind.meet.Goals.{then-rank_of, else-rank_of}
 use Rattle.cells.proofs.echo.ReturnBitsKind.meet.Goals as goal
 
-pub returns-then-rank : goal.returns-then-rank
-returns-then-rank c =
-    let a : c.rank-2.result ≡ rank (counted c.args.self.0) = c.rank-2.ensures ∙ ap rank c.from-a.ensures in
-    let b : c.rank.result ≡ rank (counted c.args.other.0) = c.rank.ensures ∙ ap rank c.from-b.ensures in
-    let below : rank (counted c.args.other.0) ≤ℤ rank (counted c.args.self.0) = omega (arith, ints) in
-    return_same c.args.other.0 c.from.result.0 (c.from.ensures ∙ c.from-b.ensures)
-    ∙ smaller_second return_bounds (rank (counted c.args.self.0)) (rank (counted c.args.other.0)) below
-
-pub returns-else-rank : goal.returns-else-rank
-returns-else-rank c =
-    let a : c.rank-2.result ≡ rank (counted c.args.self.0) = c.rank-2.ensures ∙ ap rank c.from-a.ensures in
-    let b : c.rank.result ≡ rank (counted c.args.other.0) = c.rank.ensures ∙ ap rank c.from-b.ensures in
-    let above : rank (counted c.args.self.0) ≤ℤ rank (counted c.args.other.0) = omega (arith, ints) in
-    return_same c.args.self.0 c.from-else-rank.result.0 (c.from-else-rank.ensures ∙ c.from-a.ensures)
-    ∙ smaller_first return_bounds (rank (counted c.args.self.0)) (rank (counted c.args.other.0)) above
+pub returns : goal.returns
+returns c =
+    let self = c.args.self.0 in
+    let other = c.args.other.0 in
+    let made = return_same c.if-rank_of.lower.0 c.from-2.result.0 (c.from-2.ensures ∙ c.from.ensures) in
+    elim c.if-rank_of.branch [
+      | then-rank_of w ↦
+          let l : rank other ≤ℤ rank self = omega (arith, ints, c.rank_of.ensures, c.rank_of-2.ensures, w.if-rank_of) in
+          made ∙ ap (λ (b : ReturnBits). return_cell b.0) w.lower-is ∙ smaller_second return_bounds (rank (counted self)) (rank (counted other)) (counted_in_order other self l)
+      | else-rank_of w ↦
+          let l : rank self ≤ℤ rank other = omega (arith, ints, c.rank_of.ensures, c.rank_of-2.ensures, w.if-rank_of) in
+          made ∙ ap (λ (b : ReturnBits). return_cell b.0) w.lower-is ∙ smaller_first return_bounds (rank (counted self)) (rank (counted other)) (counted_in_order self other l)
+    ]
