@@ -21,6 +21,7 @@ use sheets::holder::{Holder, Size};
 
 // Erodes the sheet under the mask with the lent table, and answers the picks made; or says why not and alters nothing. The
 // table may be longer than is needed. What it holds afterwards is not promised.
+#[inline(always)]
 pub fn erode<H: Holder>(holder: &mut H, mask: &Mask, table: &mut [H::Cell]) -> Result<u64, Refusal>
 where
     H::Cell: Kind,
@@ -30,6 +31,7 @@ where
 }
 
 // Dilates the sheet under the mask, likewise: an erosion on the other side of the lattice, under the turned mask.
+#[inline(always)]
 pub fn dilate<H: Holder>(holder: &mut H, mask: &Mask, table: &mut [H::Cell]) -> Result<u64, Refusal>
 where
     H::Cell: Kind,
@@ -39,6 +41,7 @@ where
 }
 
 // Erodes the sheet on the side S, for any mask and points that the plan is for. A dilation makes as many picks as an erosion.
+#[inline(always)]
 fn filter<H: Holder, S: Side>(
     holder: &mut H,
     plan: Plan,

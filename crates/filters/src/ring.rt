@@ -37,6 +37,7 @@ impl<K: Kind> Ring<K> {
 
     // Takes the lines before those that complete a row, V - 1 of them, each into the slot of its number, and answers the picks
     // made. A place without a cell stands as the padding. Lines are no list: some of them lie above the sheet.
+    #[inline(always)]
     pub(crate) fn first_lines<H: Holder<Cell = K>, S: Side>(
         &mut self,
         h: &H,
@@ -59,6 +60,7 @@ impl<K: Kind> Ring<K> {
 
     // Takes the line that completes row `y`, gathers the row in the slot after it, and answers the picks made. Rows of the
     // sheet before row `y` are not read.
+    #[inline(always)]
     pub(crate) fn next_row<H: Holder<Cell = K>, S: Side>(
         &mut self,
         h: &H,

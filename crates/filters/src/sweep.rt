@@ -16,7 +16,10 @@ use sheets::holder::{Holder, Size};
 
 // Erodes the sheet in place on the side S, and answers the picks made. The lines of the sheet are taken into a ring of V
 // slots, one after the other. Row y is written when the lines of all its chords are in the table; row y itself is one of
-// them, so it is not read again. A holder is asked for its rows by number.
+// them, so it is not read again. A holder is asked for its rows by number. All of it is compiled into whoever calls a filter:
+// where the holder lies among the caller's own variables, its size and its cells are known then not to change while others
+// are written, and whole rows are copied at once.
+#[inline(always)]
 pub(crate) fn sweep<H: Holder, S: Side>(
     h: &mut H,
     plan: Plan,

@@ -1,5 +1,5 @@
 -- One cell more is put; the places that have a cell stay.
-use Rattle.std.proofs.Common.{◌≡◌, ◌≢◌, Some, sym, ap, ◌∙◌, arith, below_more}
+use Rattle.std.proofs.Common.{◌≡◌, ◌<◌, ◌≢◌, length, Some, sym, ap, ◌∙◌, arith, below_more}
 use Rattle.std.specs.Option.{option_map}
 use Rattle.sheets.specs.Sheet.{Sheet, has, put_at}
 use Rattle.filters.proofs.Entries.{at_read}
@@ -12,7 +12,7 @@ loop-x-preserved g c =
     let s = g.H.Holder.sheet c.loop-x.h in
     let v = c.index-row-x.result in
     let after : g.H.Holder.sheet c.put.new.self ≡ put_at s c.loop-x.x c.args.y v = c.put.ensures.after in
-    let lt = c.loop-x-test.true in (
+    let lt : c.loop-x.x < length c.args.row.now = omega (arith, c.loop-x-test.true, c.size.ensures.width, c.loop-x.invariant.0, c.requires.wide) in (
       ap (λ (t : Sheet g.row.H-Cell.Denot). t.width) after ∙ c.loop-x.invariant.0,
       ap (λ (t : Sheet g.row.H-Cell.Denot). t.height) after ∙ c.loop-x.invariant.1,
       λ z. below_more _ _

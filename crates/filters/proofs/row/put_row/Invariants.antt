@@ -1,5 +1,5 @@
 -- The row before column x is what the list has.
-use Rattle.std.proofs.Common.{◌≡◌, ℕ, ◌<◌, ◌≤◌, true, ◌≢◌, length, Some}
+use Rattle.std.proofs.Common.{◌≡◌, ℕ, ◌-◌, ◌<◌, ◌≤◌, true, ◌≢◌, length, Some}
 use Rattle.std.specs.Option.{option_map}
 use Rattle.sheets.specs.Sheet.{has}
 use Rattle.filters.specs.Side.{cell_at}
@@ -13,3 +13,6 @@ invariant-loop-x g l =
     ((i j : ℕ) → length l.row ≤ i → (g.H.Holder.sheet l.h).cell i j ≡ (g.H.Holder.sheet l.initial.h).cell i j) ×
     ((i j : ℕ) → j ≢ l.y → (g.H.Holder.sheet l.h).cell i j ≡ (g.H.Holder.sheet l.initial.h).cell i j) ×
     ((x : ℕ) → x < length l.row → has (g.H.Holder.sheet l.h) x l.y ≡ true)
+
+abbrev pub decreases-loop-x : goal.decreases-loop-x
+decreases-loop-x g l = length l.row - l.x

@@ -1,5 +1,5 @@
 -- A row more is a result. When all rows are, the sheet is the erosion.
-use Rattle.std.proofs.Common.{◌≡◌, ℕ, ◌+◌, ◌-◌, ◌*◌, ◌≤◌, length, Some, refl, ap, ◌∙◌, subst, arith}
+use Rattle.std.proofs.Common.{◌≡◌, ℕ, ◌+◌, ◌-◌, ◌*◌, ◌≤◌, length, Some, refl, sym, ap, ◌∙◌, subst, arith}
 use Rattle.masks.specs.Cost.{line_picks}
 use Rattle.filters.specs.Side.{side}
 use Rattle.filters.specs.Line.{entry}
@@ -46,7 +46,7 @@ put_row-requires g c =
     let M : Mixed k f p s.width s t y = subst (λ (n : ℕ). Mixed k f p n s t y) ew c.loop-y.invariant.3 in
     let long = row_long f k.greatest p w ring G c.next_row-picks.new.table c.row.result.now
     (omega (arith, c.requires.room, c.loop-y.auto.table, c.first_lines-picks.auto.table, c.next_row-picks.auto.table)) c.row.ensures in
-    record { on = λ x h. row_has k f p s t y x (g.met.H.Holder.whole c.args.h.now) M (omega (arith, eh)) (omega (arith, long, ew)) }
+    record { wide = M.width ∙ sym ew ∙ sym long; on = λ x h. row_has k f p s t y x (g.met.H.Holder.whole c.args.h.now) M (omega (arith, eh)) (omega (arith, long, ew)) }
 
 pub loop-y-preserved : goal.loop-y-preserved
 loop-y-preserved g c =
