@@ -1,10 +1,11 @@
 -- Why a filter is refused, and in which order the grounds are tried.
 --     number r                       the number of a refusal
+--     values r                       the values that are told with it
 --     sized w h                      the size of a sheet w by h
 --     judged w h mask n              a filter of a sheet w by h with a table of n cells: the mask, or the refusal
 --     judged_mid w h w' h' mask n    the same of a mid, whose second sheet is w' by h'
 --     judged_find w h fore n back m  the same of a find, with a table of n cells for the fore mask and one of m for the back
-use Rattle.std.specs.Prelude.{ℕ, Bool, cond, ◌&&◌, Some, None, Ok, Err, Option, Result, ◌==◌, nat_le, nat_lt}
+use Rattle.std.specs.Prelude.{ℕ, Bool, cond, ◌&&◌, List, [], ◌∷◌, Some, None, Ok, Err, Option, Result, ◌==◌, nat_le, nat_lt}
 use Rattle.masks.specs.Cost.{table_cells}
 use Rattle.masks.specs.declared.mask.Mask.{Mask}
 use Rattle.sheets.specs.declared.holder.Size.{Size}
@@ -17,6 +18,13 @@ number (WrongSize s) = 9
 number NoMask = 10
 number (ShortTable needs has) = 11
 number (UnlikeSizes s t) = 12
+
+-- the values that are told with it, in their order; zeros behind the last
+abbrev pub values : Refusal → List ℕ
+values (WrongSize s) = s.width ∷ s.height ∷ 0 ∷ 0 ∷ []
+values NoMask = 0 ∷ 0 ∷ 0 ∷ 0 ∷ []
+values (ShortTable needs has) = needs ∷ has ∷ 0 ∷ 0 ∷ []
+values (UnlikeSizes s t) = s.width ∷ s.height ∷ t.width ∷ t.height ∷ []
 
 -- a width or a height that can be filtered
 abbrev pub fits : ℕ → Bool

@@ -1,6 +1,6 @@
 // Why a filter is refused.
 ghost use Rattle.std.specs.Prelude.{◌≡◌, ◌&&◌};
-ghost use Rattle.morphology.specs.Refusals.{number, fits};
+ghost use Rattle.morphology.specs.Refusals.{number, values, fits};
 
 use sheets::holder::Size;
 
@@ -30,6 +30,20 @@ impl Refusal {
             Refusal::NoMask => 10,
             Refusal::ShortTable { .. } => 11,
             Refusal::UnlikeSizes { .. } => 12,
+        }
+    }
+
+    // The values that are told with the refusal; zeros behind the last.
+    pub fn values(self) -> [usize; 4]
+        ensures { result ≡ values self }
+    {
+        match self {
+            Refusal::WrongSize(size) => [size.width, size.height, 0, 0],
+            Refusal::NoMask => [0; 4],
+            Refusal::ShortTable { needed, lent } => [needed, lent, 0, 0],
+            Refusal::UnlikeSizes { first, second } => {
+                [first.width, first.height, second.width, second.height]
+            }
         }
     }
 }
