@@ -1,0 +1,2 @@
+-- Read in this order.
+pub mod Told
