@@ -1,5 +1,5 @@
 // Erodes a made-up gray sheet of 2,048 by 2,048 under a disk of diameter 31. Prints a checksum of the result on standard
-// output, which bench/chords.c prints too, and the best time of some runs on standard error.
+// output, and the best time of some runs on standard error.
 #![tactic(auto)]
 
 use anyhow::anyhow;
