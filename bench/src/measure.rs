@@ -1,4 +1,5 @@
-//! One case: a call on a sheet of a kind under a mask, by each way there is. All results have to be equal before any is timed.
+//! One case: a call on a sheet of a kind under a mask, by each way there is. The proved filter and plain C have to agree before
+//! either is timed, and each other way with them before its time is told.
 
 use std::fs;
 use std::path::Path;
