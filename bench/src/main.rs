@@ -10,7 +10,7 @@ use std::fs;
 use std::path::{Path, PathBuf};
 use std::process::ExitCode;
 
-use cell::{Call, Cell};
+use cell::Call;
 use mask::Mask;
 use measure::{times, Others, Times, NONE};
 use report::{bars, plots, Bar, Table};
