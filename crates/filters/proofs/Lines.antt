@@ -12,13 +12,14 @@ use Rattle.masks.specs.Cost.{line_picks}
 use Rattle.sheets.specs.Sheet.{Sheet}
 use Rattle.plans.specs.declared.plan.Plan.{Plan}
 use Rattle.plans.specs.Plan.{length_of}
+use Rattle.plans.specs.Shown.{lengths_of}
 use Rattle.filters.specs.Line.{or_else, place, entry, Runs, Holds}
 use Rattle.filters.proofs.Entries.{at_part}
 use Rattle.filters.proofs.Bests.{best_same, best_at, best_runs}
 use Rattle.filters.proofs.Rooms.{part_room}
 
 -- one length more
-pub runs_more : {K C : Type 0} (k : Lattice C) (f : K → C) (G : ℕ → C → Type 0) (p : Plan) (w : ℕ) (old new : List K) (start i : ℕ) → 1 ≤ i → i < length p.lengths →
+pub runs_more : {K C : Type 0} (k : Lattice C) (f : K → C) (G : ℕ → C → Type 0) (p : Plan) (w : ℕ) (old new : List K) (start i : ℕ) → 1 ≤ i → i < length (lengths_of p) →
     ((c : ℕ) → c < w + 30 + 1 - length_of p i → entry k f new (start + i * (w + 30) + c) ≡ k.meet (entry k f old (start + (i - 1) * (w + 30) + c)) (entry k f old (start + (i - 1) * (w + 30) + c + (length_of p i - length_of p (i - 1))))) →
     ((x : ℕ) → x < start + i * (w + 30) → entry k f new x ≡ entry k f old x) →
     Runs k f G p w old start i → Runs k f G p w new start (i + 1)
@@ -54,17 +55,17 @@ runs_same k f G G' p w t start n to from R i h c l =
 -- runs over a line that was loaded from the sheet
 pub runs_holds : {K C : Type 0} (k : Lattice C) (f : K → C) (z : C) (s : Sheet K) (p : Plan) (w : ℕ) (mid t : List K) (l : ℕ) →
     ((i : ℕ) → i < w + 30 → entry k f mid i ≡ or_else f z (place s p.above i l)) →
-    Runs k f (λ x a. Under k a (entry k f mid x)) p w t 0 (length p.lengths) → Holds k f z s p w t 0 l
+    Runs k f (λ x a. Under k a (entry k f mid x)) p w t 0 (length (lengths_of p)) → Holds k f z s p w t 0 l
 runs_holds k f z s p w mid t l e =
-    runs_same k f _ _ p w t 0 (length p.lengths)
+    runs_same k f _ _ p w t 0 (length (lengths_of p))
     (λ x a h u. subst (Under k a) (e x h) u)
     (λ x a h u. subst (Under k a) (sym (e x h)) u)
 
 -- lines that are put over a part of the table
 pub holds_part : {K C : Type 0} (k : Lattice C) (f : K → C) (z : C) (s : Sheet K) (p : Plan) (w : ℕ) (table lines : List K) (start l m : ℕ) →
-    start ≤ length table → length lines ≡ length p.lengths * (w + 30) → Holds k f z s p w lines 0 l → Holds k f z s p w (put_mid start m table lines) start l
+    start ≤ length table → length lines ≡ length (lengths_of p) * (w + 30) → Holds k f z s p w lines 0 l → Holds k f z s p w (put_mid start m table lines) start l
 holds_part k f z s p w table lines start l m room long H i h c lc =
-    let in_slot = part_room i (length p.lengths) (w + 30) h in
+    let in_slot = part_room i (length (lengths_of p)) (w + 30) h in
     let low = p.sound.low i h in
     let e : start + i * (w + 30) + c ≡ start + (0 + i * (w + 30) + c) = omega arith in
     best_at k _ _ _ (ap (entry k f (put_mid start m table lines)) e ∙ at_part f k.greatest start m table lines room (0 + i * (w + 30) + c) (omega (arith, in_slot, low, long, lc))) (H i h c lc)
@@ -104,7 +105,7 @@ neighbours xs m i x a b e h p =
 -- a turn has length n and the one after it, which the plan says to be longer
 pub record Turn (p : Plan) (n i shorter longer : ℕ) : Type 0 where
   pub here : i ≡ n
-  pub within : n + 1 < length p.lengths
+  pub within : n + 1 < length (lengths_of p)
   pub one : 1 ≤ n + 1
   pub back : length_of p (n + 1 - 1) ≡ length_of p n
   pub shorter_is : shorter ≡ length_of p n
@@ -113,11 +114,11 @@ pub record Turn (p : Plan) (n i shorter longer : ℕ) : Type 0 where
   pub top : length_of p (n + 1) ≤ 31
   pub low : 1 ≤ length_of p n
 
-pub turn : (p : Plan) (lens : List ℕ) → lens ≡ p.lengths → (n i a b : ℕ) → n < length (enumerate_from 0 (zip lens (take (length lens - 1) (drop 1 lens)))) →
+pub turn : (p : Plan) (lens : List ℕ) → lens ≡ (lengths_of p) → (n i a b : ℕ) → n < length (enumerate_from 0 (zip lens (take (length lens - 1) (drop 1 lens)))) →
     ◌≡◌ {A = ℕ × (ℕ × ℕ)} (i, (a, b)) (get_or (enumerate_from 0 (zip lens (take (length lens - 1) (drop 1 lens)))) n (i, (a, b))) → Turn p n i a b
 turn p lens items n i a b e h =
     let N = neighbours lens (length lens - 1) n i a b refl e h in
-    let within : n + 1 < length p.lengths = omega (arith, N.1, ap length items) in
+    let within : n + 1 < length (lengths_of p) = omega (arith, N.1, ap length items) in
     let one : 1 ≤ n + 1 = omega arith in
     record {
       here = N.0;

@@ -7,6 +7,7 @@ use Rattle.cells.specs.Lattice.{Lattice}
 use Rattle.sheets.specs.Sheet.{Sheet, has, Whole}
 use Rattle.plans.specs.declared.plan.Plan.{Plan}
 use Rattle.plans.specs.Plan.{chord_of}
+use Rattle.plans.specs.Shown.{lengths_of, chords_of}
 use Rattle.filters.specs.Side.{Best}
 use Rattle.filters.specs.Line.{UnderCell, entry, Holds, Beside}
 use Rattle.filters.specs.Row.{slot_of, run_of, picked}
@@ -32,34 +33,34 @@ slot_filling rows slot h = grind (arith, nat_tests)
 module _ {K C : Type 0} (k : Lattice C) (f : K → C) (z : C) (s : Sheet K) (p : Plan) (w : ℕ) where
   -- a line that no write touched
   holds_kept : (old new : List K) (start l : ℕ) →
-      ((x : ℕ) → start ≤ x → x < start + length p.lengths * (w + 30) → entry k f new x ≡ entry k f old x) → Holds k f z s p w old start l → Holds k f z s p w new start l
+      ((x : ℕ) → start ≤ x → x < start + length (lengths_of p) * (w + 30) → entry k f new x ≡ entry k f old x) → Holds k f z s p w old start l → Holds k f z s p w new start l
   holds_kept old new start l kept H i h c m =
-      let room = part_room i (length p.lengths) (w + 30) h in
+      let room = part_room i (length (lengths_of p)) (w + 30) h in
       let low = p.sound.low i h in
       best_at k _ _ _ (kept (start + i * (w + 30) + c) (omega arith) (omega (arith, room, low))) (H i h c m)
 
   -- and a slot that no write touched, since all writes were in another
   slot_kept : (old new : List K) (slot sl l : ℕ) → sl ≢ slot →
-      Beside f old new (slot * length p.lengths * (w + 30)) (slot * length p.lengths * (w + 30) + length p.lengths * (w + 30)) →
-      Holds k f z s p w old (sl * length p.lengths * (w + 30)) l → Holds k f z s p w new (sl * length p.lengths * (w + 30)) l
+      Beside f old new (slot * length (lengths_of p) * (w + 30)) (slot * length (lengths_of p) * (w + 30) + length (lengths_of p) * (w + 30)) →
+      Holds k f z s p w old (sl * length (lengths_of p) * (w + 30)) l → Holds k f z s p w new (sl * length (lengths_of p) * (w + 30)) l
   slot_kept old new slot sl l ne B =
-      holds_kept old new (sl * length p.lengths * (w + 30)) l
+      holds_kept old new (sl * length (lengths_of p) * (w + 30)) l
       (λ x lo hi. elim (cases_lt sl slot) [
-        | inl u ↦ B.before k.greatest x (omega (arith, slot_room sl slot (length p.lengths) (w + 30) u))
-        | inr v ↦ let u : slot < sl = omega arith in B.after k.greatest x (omega (arith, slot_room slot sl (length p.lengths) (w + 30) u))
+        | inl u ↦ B.before k.greatest x (omega (arith, slot_room sl slot (length (lengths_of p)) (w + 30) u))
+        | inr v ↦ let u : slot < sl = omega arith in B.after k.greatest x (omega (arith, slot_room slot sl (length (lengths_of p)) (w + 30) u))
       ])
 
   -- a line of a sheet that is the same from row y on
   pub holds_sheet : (t : Sheet K) (table : List K) (start l y : ℕ) → SameFrom y s t → y ≤ l - p.above → Holds k f z t p w table start l → Holds k f z s p w table start l
   holds_sheet t table start l y left h =
-      runs_same k f _ _ p w table start (length p.lengths)
+      runs_same k f _ _ p w table start (length (lengths_of p))
       (λ x a _ u. subst (UnderCell k f z a) (ap (λ (o : Option K). cond (ltb x 15 || ltb l p.above) None o) (left (x - 15) (l - p.above) h)) u)
       (λ x a _ u. subst (UnderCell k f z a) (sym (ap (λ (o : Option K). cond (ltb x 15 || ltb l p.above) None o) (left (x - 15) (l - p.above) h))) u)
 
   -- a line more, in the slot that is next
   pub ring_more : (old new : List K) (slot line n : ℕ) → slot < p.rows → n < p.rows →
-      Beside f old new (slot * length p.lengths * (w + 30)) (slot * length p.lengths * (w + 30) + length p.lengths * (w + 30)) →
-      Holds k f z s p w new (slot * length p.lengths * (w + 30)) line → InRing k f z s p w old slot line n → InRing k f z s p w new (next_slot p.rows slot) (line + 1) (n + 1)
+      Beside f old new (slot * length (lengths_of p) * (w + 30)) (slot * length (lengths_of p) * (w + 30) + length (lengths_of p) * (w + 30)) →
+      Holds k f z s p w new (slot * length (lengths_of p) * (w + 30)) line → InRing k f z s p w old slot line n → InRing k f z s p w new (next_slot p.rows slot) (line + 1) (n + 1)
   ring_more old new slot line n hs hn B H R l h m =
       elim (cases_lt l line) [
         | inl b ↦
@@ -69,18 +70,18 @@ module _ {K C : Type 0} (k : Lattice C) (f : K → C) (z : C) (s : Sheet K) (p :
             let sl = slot_of p.rows slot rl in
             let er : l + p.rows - (line + 1) ≡ rl - 1 = omega arith in
             let e : sl ≡ slot_of p.rows (next_slot p.rows slot) (l + p.rows - (line + 1)) = sym (ap (slot_of p.rows (next_slot p.rows slot)) er ∙ slot_turn p.rows slot rl hs r2 r1) in
-            subst (λ (i : ℕ). Holds k f z s p w new (i * length p.lengths * (w + 30)) l) e
+            subst (λ (i : ℕ). Holds k f z s p w new (i * length (lengths_of p) * (w + 30)) l) e
             (slot_kept old new slot sl l (slot_apart p.rows slot rl hs r2 r1) B (R l b (omega arith)))
         | inr b ↦
             let el : line ≡ l = omega arith in
             let er : l + p.rows - (line + 1) + 1 ≡ p.rows = omega (arith, p.sound.origin) in
             let e : slot ≡ slot_of p.rows (next_slot p.rows slot) (l + p.rows - (line + 1)) = sym (slot_newest p.rows slot (l + p.rows - (line + 1)) hs er) in
-            subst (λ (i : ℕ). Holds k f z s p w new (i * length p.lengths * (w + 30)) l) e (subst (Holds k f z s p w new (slot * length p.lengths * (w + 30))) el H)
+            subst (λ (i : ℕ). Holds k f z s p w new (i * length (lengths_of p) * (w + 30)) l) e (subst (Holds k f z s p w new (slot * length (lengths_of p) * (w + 30))) el H)
       ]
 
   -- the slot of the oldest line is written over
   pub ring_less : (old new : List K) (slot line n : ℕ) → slot < p.rows → n < p.rows →
-      Beside f old new (slot * length p.lengths * (w + 30)) (slot * length p.lengths * (w + 30) + length p.lengths * (w + 30)) →
+      Beside f old new (slot * length (lengths_of p) * (w + 30)) (slot * length (lengths_of p) * (w + 30) + length (lengths_of p) * (w + 30)) →
       InRing k f z s p w old slot line (n + 1) → InRing k f z s p w new slot line n
   ring_less old new slot line n hs hn B R l h m =
       let rl = l + p.rows - line in
@@ -91,12 +92,12 @@ module _ {K C : Type 0} (k : Lattice C) (f : K → C) (z : C) (s : Sheet K) (p :
   -- the pick over the chords is the greatest lower bound of all that they show
   pub through_best : (table : List K) (slot line x y : ℕ) → x < w → line ≡ y + p.rows →
       InRing k f z s p w table slot line p.rows →
-      Best k (Through k f z s p x y) (picked k (run_of f k.greatest table p (w + 30) slot x) (length p.chords.items - 1))
+      Best k (Through k f z s p x y) (picked k (run_of f k.greatest table p (w + 30) slot x) (length (chords_of p) - 1))
   through_best table slot line x y hx e R =
-      best_same k (λ a. (q : ℕ) → q ≤ length p.chords.items - 1 → Along k f z s p x y q a) (Through k f z s p x y) _
+      best_same k (λ a. (q : ℕ) → q ≤ length (chords_of p) - 1 → Along k f z s p x y q a) (Through k f z s p x y) _
       (λ a g q m. g q (omega arith)) (λ a g q m. g q (omega (arith, p.sound.some_chord)))
-      (picked_best k _ (Along k f z s p x y) (length p.chords.items - 1) (λ q m.
-      let hq : q < length p.chords.items = omega (arith, p.sound.some_chord) in
+      (picked_best k _ (Along k f z s p x y) (length (chords_of p) - 1) (λ q m.
+      let hq : q < length (chords_of p) = omega (arith, p.sound.some_chord) in
       let ch = chord_of p q in
       let wi = p.sound.chords q hq in
       let en = p.sound.ends q hq in
@@ -105,8 +106,8 @@ module _ {K C : Type 0} (k : Lattice C) (f : K → C) (z : C) (s : Sheet K) (p :
       let lt : l < line = omega (arith, wi.row) in
       let le : line ≤ l + p.rows = omega (arith, e) in
       let er : l + p.rows - line ≡ ch.row = omega (arith, e) in
-      let H = subst (λ (n : ℕ). Holds k f z s p w table (slot_of p.rows slot n * length p.lengths * (w + 30)) l) er (R l lt le) in
-      let ix : (sl * length p.lengths + ch.index) * (w + 30) + ch.column + x ≡ sl * length p.lengths * (w + 30) + ch.index * (w + 30) + (ch.column + x) = omega (arith, add-mul (sl * length p.lengths) ch.index (w + 30)) in
+      let H = subst (λ (n : ℕ). Holds k f z s p w table (slot_of p.rows slot n * length (lengths_of p) * (w + 30)) l) er (R l lt le) in
+      let ix : (sl * length (lengths_of p) + ch.index) * (w + 30) + ch.column + x ≡ sl * length (lengths_of p) * (w + 30) + ch.index * (w + 30) + (ch.column + x) = omega (arith, add-mul (sl * length (lengths_of p)) ch.index (w + 30)) in
       best_at k _ _ _ (ap (entry k f table) ix) (H ch.index wi.index (ch.column + x) (omega (arith, en)))))
 
 -- o has the greatest lower bound of what the chords show at (x, y)

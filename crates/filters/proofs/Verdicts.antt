@@ -18,29 +18,30 @@ use Rattle.morphology.specs.declared.refusal.Refusal.TheVariants.{WrongSize, Sho
 use Rattle.morphology.proofs.Gathers.{turning}
 use Rattle.plans.specs.declared.plan.Plan.{Plan}
 use Rattle.plans.specs.Plan.{PlanOf}
+use Rattle.plans.specs.Shown.{lengths_of, chords_of}
 use Rattle.filters.specs.Calls.{verdict, eroded_by}
 
 -- the table that the plan needs is the mask's
-plan_table : (ws : List ℕ) (ps : List Point) (p : Plan) (w : ℕ) → PlanOf ws ps p → p.rows * length p.lengths * (w + 30) ≡ table_cells ws w
+plan_table : (ws : List ℕ) (ps : List Point) (p : Plan) (w : ℕ) → PlanOf ws ps p → p.rows * length (lengths_of p) * (w + 30) ≡ table_cells ws w
 unfolding table_cells
 plan_table ws ps p w P = ap₂ (λ (v n : ℕ). v * n * (w + 30)) P.rows (ap length P.lengths)
 
 -- and so are the picks
 pub plan_picks : (ws : List ℕ) (ps : List Point) (p : Plan) (w h : ℕ) → PlanOf ws ps p →
-    (h + p.rows - 1) * line_picks w p.lengths + h * (w * (length p.chords.items - 1)) ≡ filter_picks ws w h
+    (h + p.rows - 1) * line_picks w (lengths_of p) + h * (w * (length (chords_of p) - 1)) ≡ filter_picks ws w h
 unfolding filter_picks
 plan_picks ws ps p w h P =
-    let c : h * (w * (length p.chords.items - 1)) ≡ w * h * (length p.chords.items - 1) = sym (mul_assoc h w (length p.chords.items - 1)) ∙ ap (λ (n : ℕ). n * (length p.chords.items - 1)) (mul_comm h w) in
-    ap (λ (n : ℕ). (h + p.rows - 1) * line_picks w p.lengths + n) c
-    ∙ ap (λ (n : ℕ). (h + n - 1) * line_picks w p.lengths + w * h * (length p.chords.items - 1)) P.rows
-    ∙ ap (λ (l : List ℕ). (h + spanned ws - 1) * line_picks w l + w * h * (length p.chords.items - 1)) P.lengths
+    let c : h * (w * (length (chords_of p) - 1)) ≡ w * h * (length (chords_of p) - 1) = sym (mul_assoc h w (length (chords_of p) - 1)) ∙ ap (λ (n : ℕ). n * (length (chords_of p) - 1)) (mul_comm h w) in
+    ap (λ (n : ℕ). (h + p.rows - 1) * line_picks w (lengths_of p) + n) c
+    ∙ ap (λ (n : ℕ). (h + n - 1) * line_picks w (lengths_of p) + w * h * (length (chords_of p) - 1)) P.rows
+    ∙ ap (λ (l : List ℕ). (h + spanned ws - 1) * line_picks w l + w * h * (length (chords_of p) - 1)) P.lengths
     ∙ ap (λ (n : ℕ). (h + spanned ws - 1) * line_picks w (lengths (chords ws 31)) + w * h * (n - 1)) P.count
 
 module _ (w h : ℕ) (m : Mask) (n : ℕ) (ps : List Point) (p : Plan) (P : PlanOf m.rows ps p) where
   by_size : (b : Bool) → (fits w && fits h) ≡ b → judged w h (Some m) n ≡ cond b (by_table w m n) (Err (WrongSize (sized w h)))
   by_size b e = ap (λ (t : Bool). cond t (by_table w m n) (Err (WrongSize (sized w h)))) e
 
-  pub judged_short : (fits w && fits h) ≡ true → n < p.rows * length p.lengths * (w + 30) → judged w h (Some m) n ≡ Err (ShortTable (p.rows * length p.lengths * (w + 30)) n)
+  pub judged_short : (fits w && fits h) ≡ true → n < p.rows * length (lengths_of p) * (w + 30) → judged w h (Some m) n ≡ Err (ShortTable (p.rows * length (lengths_of p) * (w + 30)) n)
   judged_short e less =
       let t = plan_table m.rows ps p w P in
       let l : n < table_cells m.rows w = omega (arith, t) in
@@ -48,7 +49,7 @@ module _ (w h : ℕ) (m : Mask) (n : ℕ) (ps : List Point) (p : Plan) (P : Plan
       ∙ ap (λ (b : Bool). cond b (Err (ShortTable (table_cells m.rows w) n)) (Ok m)) (lt-ltb n (table_cells m.rows w) l)
       ∙ ap (λ (k : ℕ). Err (ShortTable k n)) (sym t)
 
-  pub judged_ok : (fits w && fits h) ≡ true → p.rows * length p.lengths * (w + 30) ≤ n → judged w h (Some m) n ≡ Ok m
+  pub judged_ok : (fits w && fits h) ≡ true → p.rows * length (lengths_of p) * (w + 30) ≤ n → judged w h (Some m) n ≡ Ok m
   judged_ok e room =
       let t = plan_table m.rows ps p w P in
       let l : table_cells m.rows w ≤ n = omega (arith, t) in

@@ -12,6 +12,7 @@ use Rattle.cells.specs.Lattice.{Lattice, Under}
 use Rattle.sheets.specs.Sheet.{Sheet}
 use Rattle.plans.specs.declared.plan.Plan.{Plan}
 use Rattle.plans.specs.Plan.{length_of}
+use Rattle.plans.specs.Shown.{lengths_of}
 use Rattle.filters.specs.Side.{Best, cell_at}
 
 -- the cell of a place as f reads it, or z where it has none
@@ -49,4 +50,4 @@ Runs k f G p w table start n =
 
 -- the runs are those of the cells of line l
 abbrev pub Holds : {K C : Type 0} → Lattice C → (K → C) → C → Sheet K → Plan → ℕ → List K → ℕ → ℕ → Type 0
-Holds k f z s p w table start l = Runs k f (λ x a. UnderCell k f z a (place s p.above x l)) p w table start (length p.lengths)
+Holds k f z s p w table start l = Runs k f (λ x a. UnderCell k f z a (place s p.above x l)) p w table start (length (lengths_of p))

@@ -8,6 +8,7 @@ use Rattle.cells.specs.Lattice.{Lattice}
 use Rattle.plans.specs.declared.plan.Plan.{Plan}
 use Rattle.plans.specs.declared.placed.PlannedChord.{PlannedChord}
 use Rattle.plans.specs.Plan.{chord_of}
+use Rattle.plans.specs.Shown.{lengths_of}
 use Rattle.filters.specs.Side.{cell_at}
 
 -- the slots follow each other in a ring
@@ -20,7 +21,7 @@ base_of rows n stride oldest c = (slot_of rows oldest c.row * n + c.index) * str
 
 -- what chord q of the plan gives at column x
 abbrev pub run_of : {K C : Type 0} → (K → C) → C → List K → Plan → ℕ → ℕ → ℕ → ℕ → C
-run_of f z table p stride oldest x q = cell_at f z table (base_of p.rows (length p.lengths) stride oldest (chord_of p q) + x)
+run_of f z table p stride oldest x q = cell_at f z table (base_of p.rows (length (lengths_of p)) stride oldest (chord_of p q) + x)
 
 -- the pick of F 0, F 1 .. F n, from the left
 abbrev pub picked : {C : Type 0} → Lattice C → (ℕ → C) → ℕ → C

@@ -12,6 +12,7 @@ use Rattle.cells.specs.Lattice.{Lattice}
 use Rattle.sheets.specs.Sheet.{Sheet}
 use Rattle.plans.specs.declared.plan.Plan.{Plan}
 use Rattle.plans.specs.Plan.{chord_of, long}
+use Rattle.plans.specs.Shown.{lengths_of, chords_of}
 use Rattle.filters.specs.declared.course.Course.{Course}
 use Rattle.filters.specs.Side.{Best}
 use Rattle.filters.specs.Line.{place, UnderCell, entry, Holds}
@@ -23,7 +24,7 @@ Along k f z s p x y q a =
     (j : ℕ) → j < long p q → UnderCell k f z a (place s p.above ((chord_of p q).column + x + j) (y + (chord_of p q).row))
 
 abbrev pub Through : {K C : Type 0} → Lattice C → (K → C) → C → Sheet K → Plan → ℕ → ℕ → C → Type 0
-Through k f z s p x y a = (q : ℕ) → q < length p.chords.items → Along k f z s p x y q a
+Through k f z s p x y a = (q : ℕ) → q < length (chords_of p) → Along k f z s p x y q a
 
 abbrev pub SameFrom : {K : Type 0} → ℕ → Sheet K → Sheet K → Type 0
 SameFrom y s t = (x j : ℕ) → y ≤ j → t.cell x j ≡ s.cell x j
@@ -35,7 +36,7 @@ next_slot rows slot = cond (nat_lt (slot + 1) rows) (slot + 1) 0
 abbrev pub InRing : {K C : Type 0} → Lattice C → (K → C) → C → Sheet K → Plan → ℕ → List K → ℕ → ℕ → ℕ → Type 0
 InRing k f z s p w table slot line n =
     (l : ℕ) → l < line → line ≤ l + n →
-    Holds k f z s p w table (slot_of p.rows slot (l + p.rows - line) * length p.lengths * (w + 30)) l
+    Holds k f z s p w table (slot_of p.rows slot (l + p.rows - line) * length (lengths_of p) * (w + 30)) l
 
 -- places without a cell stand as the course's padding
 abbrev pub Stands : {K C : Type 0} → Lattice C → (K → C) → Course K → Sheet K → List K → ℕ → ℕ → ℕ → Type 0

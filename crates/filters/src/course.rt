@@ -1,5 +1,6 @@
 // What a filter goes by.
 ghost use Rattle.std.specs.Prelude.{◌≡◌, ◌+◌, ◌*◌, ◌≤◌, length};
+ghost use Rattle.plans.specs.Shown.{lengths_of};
 
 use plans::plan::Plan;
 
@@ -22,7 +23,7 @@ impl<K> Course<K> {
 
     // How many cells the lines of a slot have: one for each length.
     pub(crate) fn slot_cells(&self) -> usize
-        ensures { result ≡ length self.now.plan.lengths * (self.now.width + 30) }
+        ensures { result ≡ length (lengths_of self.now.plan) * (self.now.width + 30) }
     {
         self.plan.lengths.as_slice().len() * self.stride()
     }

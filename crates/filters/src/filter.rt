@@ -7,6 +7,7 @@ ghost use Rattle.morphology.specs.Calls.{answered_by};
 ghost use Rattle.morphology.specs.Refusals.{judged};
 ghost use Rattle.morphology.specs.declared.call.Filter.TheVariants.{Erode, Dilate};
 ghost use Rattle.plans.specs.Plan.{PlanOf};
+ghost use Rattle.plans.specs.Shown.{lengths_of};
 ghost use Rattle.filters.specs.Side.{side};
 ghost use Rattle.filters.specs.Calls.{verdict, eroded_by, WhereRefused, Filtered};
 
@@ -64,7 +65,7 @@ where
 // would have to be shown to have it.
 pub(crate) fn admit(size: Size, plan: &Plan, cells: usize) -> Result<(), Refusal>
     ensures verdict { (m : Mask) (ps : List Point) → PlanOf m.rows ps plan.now → MatchResult result (λ _. judged size.width size.height (Some m) cells ≡ Ok m) (λ r. judged size.width size.height (Some m) cells ≡ Err r) }
-    ensures room { IfOk result (λ _. ((1 ≤ size.width) × (size.width ≤ 2048)) × ((1 ≤ size.height) × (size.height ≤ 2048)) × (plan.now.rows * length plan.now.lengths * (size.width + 30) ≤ cells)) }
+    ensures room { IfOk result (λ _. ((1 ≤ size.width) × (size.width ≤ 2048)) × ((1 ≤ size.height) × (size.height ≤ 2048)) × (plan.now.rows * length (lengths_of plan.now) * (size.width + 30) ≤ cells)) }
 {
     if !can_filter(size) {
         return Err(Refusal::WrongSize(size));

@@ -3,10 +3,11 @@ ghost use Rattle.std.specs.Prelude.{◌≡◌, ◌+◌, ◌-◌, ◌*◌, ◌<�
 ghost use Rattle.cells.specs.Lattice.{Above};
 ghost use Rattle.masks.specs.Cost.{line_picks};
 ghost use Rattle.masks.specs.declared.point.Point.{Point};
-ghost use Rattle.sheets.specs.Sheet.{shown};
+ghost use Rattle.sheets.specs.Sheet.{Whole, shown};
 ghost use Rattle.morphology.specs.Refusals.{judged_find};
 ghost use Rattle.morphology.specs.Find.{HitList};
 ghost use Rattle.plans.specs.Plan.{Spells};
+ghost use Rattle.plans.specs.Shown.{lengths_of, chords_of};
 ghost use Rattle.filters.specs.Calls.{WhereRefused};
 ghost use Rattle.filters.specs.Find.{note, listed, RowHits, Found};
 
@@ -64,9 +65,10 @@ where
     H::Cell: Ranked,
     requires size { (size.width ≤ 2048) × ((size.height ≤ 2048) × ((size.width ≡ (H.Holder.sheet h.now).width) × (size.height ≡ (H.Holder.sheet h.now).height))) }
     requires some { 1 ≤ size.width }
-    requires fore { fore.rows * length fore.lengths * (size.width + 30) ≤ length fore_table.old }
-    requires back { back.rows * length back.lengths * (size.width + 30) ≤ length back_table.old }
-    ensures picks { result.1 ≡ (size.height + fore.rows - 1) * line_picks size.width fore.lengths + size.height * (size.width * (length fore.chords.items - 1)) + ((size.height + back.rows - 1) * line_picks size.width back.lengths + size.height * (size.width * (length back.chords.items - 1))) }
+    requires whole { Whole (H.Holder.sheet h.now) }
+    requires fore { fore.rows * length (lengths_of fore) * (size.width + 30) ≤ length fore_table.old }
+    requires back { back.rows * length (lengths_of back) * (size.width + 30) ≤ length back_table.old }
+    ensures picks { result.1 ≡ (size.height + fore.rows - 1) * line_picks size.width (lengths_of fore) + size.height * (size.width * (length (chords_of fore) - 1)) + ((size.height + back.rows - 1) * line_picks size.width (lengths_of back) + size.height * (size.width * (length (chords_of back) - 1))) }
     ensures hits { (fores backs : List Point) → Spells fore fores → Spells back backs → (hits : List Place) × HitList H.Cell.Kind.lattice fores backs (shown H.Cell.Kind.means (H.Holder.sheet h.now)) hits × (result.0 ≡ length hits) × (places.new ≡ listed hits places.old) }
 {
     let least = H::Cell::least();

@@ -3,6 +3,7 @@
 ghost use Rattle.std.specs.Prelude.{◌≡◌, ℕ, ◌+◌, ◌-◌, ◌*◌, ◌<◌, ◌≤◌, ◌^◌, length};
 ghost use Rattle.cells.specs.Lattice.{Under};
 ghost use Rattle.masks.specs.Cost.{line_picks};
+ghost use Rattle.plans.specs.Shown.{lengths_of};
 ghost use Rattle.filters.specs.Side.{side, cell_at};
 ghost use Rattle.filters.specs.Line.{or_else, padded, place, entry, Runs, Holds, Beside};
 
@@ -22,9 +23,9 @@ pub(crate) fn take_line<H: Holder, S: Side>(
 ) -> u64
 where
     H::Cell: Kind,
-    requires { length lines.old ≡ length course.now.plan.lengths * (course.now.width + 30) }
+    requires { length lines.old ≡ length (lengths_of course.now.plan) * (course.now.width + 30) }
     ensures few { result ≤ 31 * 2078 }
-    ensures picks { result ≡ line_picks course.now.width course.now.plan.lengths }
+    ensures picks { result ≡ line_picks course.now.width (lengths_of course.now.plan) }
     ensures holds { Holds (side S.Side.lower H.Cell.Kind.lattice) H.Cell.Kind.means (H.Cell.Kind.means course.now.pad) (H.Holder.sheet h.now) course.now.plan course.now.width lines.new 0 line }
 {
     load_line(h, course, line, &mut lines[..course.stride()]);
@@ -86,10 +87,10 @@ fn fill<K: Kind>(pad: K, cells: &mut [K])
 
 // The longer runs of a line, each length from the one before. The place of a length tells where its runs begin.
 fn build<K: Kind, S: Side>(course: &Course<K>, lines: &mut [K]) -> u64
-    requires { length lines.old ≡ length course.now.plan.lengths * (course.now.width + 30) }
+    requires { length lines.old ≡ length (lengths_of course.now.plan) * (course.now.width + 30) }
     ensures few { result ≤ 31 * 2078 }
-    ensures picks { result ≡ line_picks course.now.width course.now.plan.lengths }
-    ensures runs { Runs (side S.Side.lower K.Kind.lattice) K.Kind.means (λ x a. Under (side S.Side.lower K.Kind.lattice) a (entry (side S.Side.lower K.Kind.lattice) K.Kind.means lines.old x)) course.now.plan course.now.width lines.new 0 (length course.now.plan.lengths) }
+    ensures picks { result ≡ line_picks course.now.width (lengths_of course.now.plan) }
+    ensures runs { Runs (side S.Side.lower K.Kind.lattice) K.Kind.means (λ x a. Under (side S.Side.lower K.Kind.lattice) a (entry (side S.Side.lower K.Kind.lattice) K.Kind.means lines.old x)) course.now.plan course.now.width lines.new 0 (length (lengths_of course.now.plan)) }
 {
     let stride = course.stride();
     let lengths = course.plan.lengths.as_slice();

@@ -2,6 +2,7 @@
 ghost use Rattle.std.specs.Prelude.{◌≡◌, ◌+◌, ◌-◌, ◌*◌, ◌<◌, ◌≤◌, length, slice_range};
 ghost use Rattle.masks.specs.Cost.{line_picks};
 ghost use Rattle.sheets.specs.Sheet.{Sheet};
+ghost use Rattle.plans.specs.Shown.{lengths_of, chords_of};
 ghost use Rattle.filters.specs.Side.{side};
 ghost use Rattle.filters.specs.Line.{Holds, Beside};
 ghost use Rattle.filters.specs.Sweep.{SameFrom, next_slot, Stands, Laid};
@@ -44,9 +45,9 @@ impl<K: Kind> Ring<K> {
         table: &mut [K],
     ) -> u64
         requires start { self.old.slot ≡ 0 }
-        requires room { self.old.course.plan.rows * length self.old.course.plan.lengths * (self.old.course.width + 30) ≤ length table.old }
+        requires room { self.old.course.plan.rows * length (lengths_of self.old.course.plan) * (self.old.course.width + 30) ≤ length table.old }
         ensures few { result ≤ 30 * 64418 }
-        ensures picks { result ≡ (self.old.course.plan.rows - 1) * line_picks self.old.course.width self.old.course.plan.lengths }
+        ensures picks { result ≡ (self.old.course.plan.rows - 1) * line_picks self.old.course.width (lengths_of self.old.course.plan) }
         ensures course { self.new.course ≡ self.old.course }
         ensures slot { self.new.slot ≡ self.old.course.plan.rows - 1 }
         ensures ring { Stands (side S.Side.lower K.Kind.lattice) K.Kind.means self.old.course (H.Holder.sheet h.now) table.new (self.old.course.plan.rows - 1) (self.old.course.plan.rows - 1) (self.old.course.plan.rows - 1) }
@@ -68,12 +69,12 @@ impl<K: Kind> Ring<K> {
         table: &mut [K],
     ) -> u64
         requires row { y ≤ 2048 }
-        requires room { self.old.course.plan.rows * length self.old.course.plan.lengths * (self.old.course.width + 30) ≤ length table.old }
+        requires room { self.old.course.plan.rows * length (lengths_of self.old.course.plan) * (self.old.course.width + 30) ≤ length table.old }
         ensures few { result ≤ 64418 + 2048 * 495 }
-        ensures picks { result ≡ line_picks self.old.course.width self.old.course.plan.lengths + self.old.course.width * (length self.old.course.plan.chords.items - 1) }
+        ensures picks { result ≡ line_picks self.old.course.width (lengths_of self.old.course.plan) + self.old.course.width * (length (chords_of self.old.course.plan) - 1) }
         ensures course { self.new.course ≡ self.old.course }
         ensures slot { self.new.slot ≡ next_slot self.old.course.plan.rows self.old.slot }
-        ensures row { (s : Sheet K) → SameFrom y s (H.Holder.sheet h.now) → Stands (side S.Side.lower K.Kind.lattice) K.Kind.means self.old.course s table.old self.old.slot (y + self.old.course.plan.rows - 1) (self.old.course.plan.rows - 1) → Laid (side S.Side.lower K.Kind.lattice) K.Kind.means self.old.course s table.new (self.new.slot * length self.old.course.plan.lengths * (self.old.course.width + 30)) y × Stands (side S.Side.lower K.Kind.lattice) K.Kind.means self.old.course s table.new self.new.slot (y + self.old.course.plan.rows) (self.old.course.plan.rows - 1) }
+        ensures row { (s : Sheet K) → SameFrom y s (H.Holder.sheet h.now) → Stands (side S.Side.lower K.Kind.lattice) K.Kind.means self.old.course s table.old self.old.slot (y + self.old.course.plan.rows - 1) (self.old.course.plan.rows - 1) → Laid (side S.Side.lower K.Kind.lattice) K.Kind.means self.old.course s table.new (self.new.slot * length (lengths_of self.old.course.plan) * (self.old.course.width + 30)) y × Stands (side S.Side.lower K.Kind.lattice) K.Kind.means self.old.course s table.new self.new.slot (y + self.old.course.plan.rows) (self.old.course.plan.rows - 1) }
     {
         let line = y + self.course.plan.rows - 1;
         let taken = self.take::<H, S>(h, line, table);
@@ -85,13 +86,13 @@ impl<K: Kind> Ring<K> {
     // calls.
     #[inline(always)]
     fn take<H: Holder<Cell = K>, S: Side>(&mut self, h: &H, line: usize, table: &mut [K]) -> u64
-        requires { self.old.course.plan.rows * length self.old.course.plan.lengths * (self.old.course.width + 30) ≤ length table.old }
+        requires { self.old.course.plan.rows * length (lengths_of self.old.course.plan) * (self.old.course.width + 30) ≤ length table.old }
         ensures few { result ≤ 31 * 2078 }
-        ensures picks { result ≡ line_picks self.old.course.width self.old.course.plan.lengths }
+        ensures picks { result ≡ line_picks self.old.course.width (lengths_of self.old.course.plan) }
         ensures course { self.new.course ≡ self.old.course }
         ensures slot { self.new.slot ≡ next_slot self.old.course.plan.rows self.old.slot }
-        ensures holds { Holds (side S.Side.lower K.Kind.lattice) K.Kind.means (K.Kind.means self.old.course.pad) (H.Holder.sheet h.now) self.old.course.plan self.old.course.width table.new (self.old.slot * length self.old.course.plan.lengths * (self.old.course.width + 30)) line }
-        ensures beside { Beside K.Kind.means table.old table.new (self.old.slot * length self.old.course.plan.lengths * (self.old.course.width + 30)) (self.old.slot * length self.old.course.plan.lengths * (self.old.course.width + 30) + length self.old.course.plan.lengths * (self.old.course.width + 30)) }
+        ensures holds { Holds (side S.Side.lower K.Kind.lattice) K.Kind.means (K.Kind.means self.old.course.pad) (H.Holder.sheet h.now) self.old.course.plan self.old.course.width table.new (self.old.slot * length (lengths_of self.old.course.plan) * (self.old.course.width + 30)) line }
+        ensures beside { Beside K.Kind.means table.old table.new (self.old.slot * length (lengths_of self.old.course.plan) * (self.old.course.width + 30)) (self.old.slot * length (lengths_of self.old.course.plan) * (self.old.course.width + 30) + length (lengths_of self.old.course.plan) * (self.old.course.width + 30)) }
     {
         let start = self.start();
         let end = start + self.course.slot_cells();
@@ -113,15 +114,15 @@ impl<K: Kind> Ring<K> {
 
     // Where the lines of the slot that is due begin in the table.
     pub(crate) fn start(&self) -> usize
-        ensures { result ≡ self.now.slot * length self.now.course.plan.lengths * (self.now.course.width + 30) }
+        ensures { result ≡ self.now.slot * length (lengths_of self.now.course.plan) * (self.now.course.width + 30) }
     {
         self.slot * self.course.slot_cells()
     }
 
     // The row that was gathered last.
     pub(crate) fn row<'a>(&self, table: &'a [K]) -> &'a [K]
-        requires { self.now.course.plan.rows * length self.now.course.plan.lengths * (self.now.course.width + 30) ≤ length table.now }
-        ensures { result.now ≡ slice_range table.now (self.now.slot * length self.now.course.plan.lengths * (self.now.course.width + 30)) (self.now.slot * length self.now.course.plan.lengths * (self.now.course.width + 30) + self.now.course.width) }
+        requires { self.now.course.plan.rows * length (lengths_of self.now.course.plan) * (self.now.course.width + 30) ≤ length table.now }
+        ensures { result.now ≡ slice_range table.now (self.now.slot * length (lengths_of self.now.course.plan) * (self.now.course.width + 30)) (self.now.slot * length (lengths_of self.now.course.plan) * (self.now.course.width + 30) + self.now.course.width) }
     {
         let start = self.start();
         &table[start..start + self.course.width]

@@ -3,6 +3,7 @@ ghost use Rattle.std.specs.Prelude.{◌≡◌, ℕ, ◌+◌, ◌-◌, ◌*◌, �
 ghost use Rattle.std.specs.Option.{option_map};
 ghost use Rattle.sheets.specs.Sheet.{has};
 ghost use Rattle.plans.specs.Sound.{Within};
+ghost use Rattle.plans.specs.Shown.{lengths_of, chords_of};
 ghost use Rattle.filters.specs.Side.{side, cell_at};
 ghost use Rattle.filters.specs.Line.{Beside};
 ghost use Rattle.filters.specs.Row.{slot_of, base_of, run_of, picked};
@@ -21,10 +22,10 @@ impl<K: Kind> Ring<K> {
     // none known.
     #[inline(always)]
     pub(crate) fn gather<S: Side>(&self, table: &mut [K]) -> u64
-        requires { self.now.course.plan.rows * length self.now.course.plan.lengths * (self.now.course.width + 30) ≤ length table.old }
-        ensures picks { result ≡ self.now.course.width * (length self.now.course.plan.chords.items - 1) }
-        ensures cells { (z : K.Kind.Cell) (x : ℕ) → x < self.now.course.width → cell_at K.Kind.means z table.new (self.now.slot * length self.now.course.plan.lengths * (self.now.course.width + 30) + x) ≡ picked (side S.Side.lower K.Kind.lattice) (run_of K.Kind.means z table.old self.now.course.plan (self.now.course.width + 30) self.now.slot x) (length self.now.course.plan.chords.items - 1) }
-        ensures beside { Beside K.Kind.means table.old table.new (self.now.slot * length self.now.course.plan.lengths * (self.now.course.width + 30)) (self.now.slot * length self.now.course.plan.lengths * (self.now.course.width + 30) + self.now.course.width) }
+        requires { self.now.course.plan.rows * length (lengths_of self.now.course.plan) * (self.now.course.width + 30) ≤ length table.old }
+        ensures picks { result ≡ self.now.course.width * (length (chords_of self.now.course.plan) - 1) }
+        ensures cells { (z : K.Kind.Cell) (x : ℕ) → x < self.now.course.width → cell_at K.Kind.means z table.new (self.now.slot * length (lengths_of self.now.course.plan) * (self.now.course.width + 30) + x) ≡ picked (side S.Side.lower K.Kind.lattice) (run_of K.Kind.means z table.old self.now.course.plan (self.now.course.width + 30) self.now.slot x) (length (chords_of self.now.course.plan) - 1) }
+        ensures beside { Beside K.Kind.means table.old table.new (self.now.slot * length (lengths_of self.now.course.plan) * (self.now.course.width + 30)) (self.now.slot * length (lengths_of self.now.course.plan) * (self.now.course.width + 30) + self.now.course.width) }
     {
         let width = self.course.width;
         let chords = self.course.plan.chords.as_slice();
@@ -62,9 +63,9 @@ impl<K: Kind> Ring<K> {
 
     // Where the run of a chord for column 0 stands in the table.
     fn base(&self, c: PlannedChord) -> usize
-        requires { Within self.now.course.plan.rows (length self.now.course.plan.lengths) c }
-        ensures place { result ≡ base_of self.now.course.plan.rows (length self.now.course.plan.lengths) (self.now.course.width + 30) self.now.slot c }
-        ensures room { result + (self.now.course.width + 30) ≤ self.now.course.plan.rows * length self.now.course.plan.lengths * (self.now.course.width + 30) + 30 }
+        requires { Within self.now.course.plan.rows (length (lengths_of self.now.course.plan)) c }
+        ensures place { result ≡ base_of self.now.course.plan.rows (length (lengths_of self.now.course.plan)) (self.now.course.width + 30) self.now.slot c }
+        ensures room { result + (self.now.course.width + 30) ≤ self.now.course.plan.rows * length (lengths_of self.now.course.plan) * (self.now.course.width + 30) + 30 }
     {
         let line = self.slot_of(c.row) * self.course.plan.lengths.as_slice().len() + c.index;
         line * self.course.stride() + c.column

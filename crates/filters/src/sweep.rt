@@ -3,8 +3,9 @@ ghost use Rattle.std.specs.Prelude.{◌≡◌, ◌+◌, ◌-◌, ◌*◌, ◌≤
 ghost use Rattle.masks.specs.Cost.{line_picks};
 ghost use Rattle.masks.specs.declared.point.Point.{Point};
 ghost use Rattle.morphology.specs.Filters.{eroded};
-ghost use Rattle.sheets.specs.Sheet.{shown};
+ghost use Rattle.sheets.specs.Sheet.{Whole, shown};
 ghost use Rattle.plans.specs.Plan.{Spells};
+ghost use Rattle.plans.specs.Shown.{lengths_of, chords_of};
 ghost use Rattle.filters.specs.Side.{side};
 
 use crate::ring::Ring;
@@ -30,8 +31,9 @@ where
     H::Cell: Kind,
     requires size { (size.width ≤ 2048) × ((size.height ≤ 2048) × ((size.width ≡ (H.Holder.sheet h.old).width) × (size.height ≡ (H.Holder.sheet h.old).height))) }
     requires some { (1 ≤ size.width) × (1 ≤ size.height) }
-    requires room { plan.rows * length plan.lengths * (size.width + 30) ≤ length table.old }
-    ensures picks { result ≡ (size.height + plan.rows - 1) * line_picks size.width plan.lengths + size.height * (size.width * (length plan.chords.items - 1)) }
+    requires whole { Whole (H.Holder.sheet h.old) }
+    requires room { plan.rows * length (lengths_of plan) * (size.width + 30) ≤ length table.old }
+    ensures picks { result ≡ (size.height + plan.rows - 1) * line_picks size.width (lengths_of plan) + size.height * (size.width * (length (chords_of plan) - 1)) }
     ensures after { (ps : List Point) → Spells plan ps → shown H.Cell.Kind.means (H.Holder.sheet h.new) ≡ eroded (side S.Side.lower H.Cell.Kind.lattice) ps (shown H.Cell.Kind.means (H.Holder.sheet h.old)) }
 {
     let mut ring = Ring::new(plan, size.width, S::pad::<H::Cell>());

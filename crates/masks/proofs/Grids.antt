@@ -1,5 +1,5 @@
 -- Points of the grid: which are held, and the list of them.
-use Rattle.std.proofs.Common.{◌≡◌, ℕ, zero, suc, ◌<◌, ◌≤◌, Bool, true, false, ◌&&◌, ◌||◌, eqb, ltb, ◌⊎◌, ◌↔◌, List, [], ◌∷◌, ◌++◌, map, length, get_or, set, replicate, ℤ, pos, negsuc, ◌+ℤ◌, filter, sum_by, sym, refl, ap, ◌∙◌, subst, ap₂, subst₂, inl, inr, arith, get_or-set_other, get_or-set_same}
+use Rattle.std.proofs.Common.{◌≡◌, ℕ, zero, suc, ◌+◌, ◌<◌, ◌≤◌, Bool, true, false, cond, ◌&&◌, ◌||◌, eqb, ltb, ◌⊎◌, ◌↔◌, List, [], ◌∷◌, ◌++◌, map, length, get_or, set, replicate, ℤ, pos, negsuc, ◌+ℤ◌, filter, sum_by, sym, refl, ap, ◌∙◌, subst, ap₂, subst₂, inl, inr, add-one, arith, get_or-set_other, get_or-set_same}
 use Rattle.std.specs.List.{range_with_len, flat_map}
 use Rattle.std.proofs.lemmas.List.Concat.{length-flat_map}
 use Rattle.std.proofs.lemmas.List.Sums.{length-filter, count_by-le-length, sum_by-le-sum_by}
@@ -12,7 +12,7 @@ use Rattle.bits.proofs.SingleBits.{bit_zero, bit_with_bit}
 use Rattle.masks.specs.Points.{Among, point_at, Earlier, InOrder}
 use Rattle.masks.specs.Rows.{marked, marked_at, holds, columns, points, Drawn}
 use Rattle.masks.specs.declared.point.Point.{Point}
-use Rattle.masks.proofs.Lists.{among_left, among_last, among_push, among_some, among_kept, kept_among, among_map, map_among, among_joined, joined_among, among_counting}
+use Rattle.masks.proofs.Lists.{among_left, among_last, among_push, among_some, among_kept, kept_among, among_map, map_among, among_joined, joined_among, among_counting, length_kept_push}
 use Rattle.masks.proofs.Orders.{order_map, order_kept, order_weaker, order_counting, order_joined}
 
 -- two points are the same where their offsets are
@@ -169,6 +169,15 @@ grid_order {X} first f at test w n =
 pub points_order : (rows : List ℕ) → InOrder Earlier (points rows 31)
 unfolding points columns
 points_order rows = grid_order (λ p. p) (λ r c. point_at c r) (λ r c. refl) (λ r c. marked rows c r) 31 31
+
+-- a column more is counted where it has a point
+pub length_columns_more : (rows : List ℕ) (r c : ℕ) → length (columns rows r (c + 1)) ≡ length (columns rows r c) + cond (marked rows c r) 1 0
+unfolding columns
+length_columns_more rows r c = ap (λ (n : ℕ). length (filter (λ k. marked rows k r) (range_with_len 0 n))) (add-one c) ∙ length_kept_push (λ k. marked rows k r) c
+
+pub length_columns_none : (rows : List ℕ) (r : ℕ) → length (columns rows r 0) ≡ 0
+unfolding columns
+length_columns_none rows r = refl
 
 -- the points are counted row by row, at most 31 in each
 pub length_points : (rows : List ℕ) → length (points rows 31) ≡ sum_by (λ r. length (columns rows r 31)) (range_with_len 0 31)

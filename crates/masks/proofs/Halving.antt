@@ -8,7 +8,6 @@ use Rattle.std.proofs.lemmas.List.Sums.{fold_push, fold_more}
 use Rattle.std.proofs.lemmas.Bool.{cases_Bool, cases_eq, cases_lt, both_ways, and_parts, or_cases, leb-true, cond-true, cond-false}
 use Rattle.std.proofs.lemmas.Bool.Decides.{nat_tests}
 use Rattle.masks.specs.Points.{Among}
-use Rattle.masks.specs.Chords.{OnGrid}
 use Rattle.masks.specs.Lengths.{listed, ticked, reached, halved_at, halved, rising, lengths, Climbs, Serves}
 use Rattle.masks.specs.declared.chord.Chord.{Chord}
 use Rattle.masks.proofs.Lists.{all_among, among_all, among_kept, kept_among, among_counting, counting_among, kept_push_from}
@@ -254,14 +253,14 @@ listed_after s i h =
     let few = length-take 31 (drop 1 s) in
     get_or-take 31 (drop 1 s) i false (omega arith) ∙ get_or_after_one s i false ∙ ap (listed s) e
 
-pub lengths_serve : (cs : List Chord) (ch : Chord) → Among cs ch → AllByRecursion OnGrid cs → Serves cs (lengths cs)
+pub lengths_serve : (cs : List Chord) (ch : Chord) → Among cs ch → AllByRecursion (λ c. (1 ≤ c.length) × (c.length < 32)) cs → Serves cs (lengths cs)
 unfolding lengths
 lengths_serve cs ch i a =
-    let short = All-weaker OnGrid (λ c. c.length < 32) (λ c p. p.3) cs a in
+    let short = All-weaker (λ c. (1 ≤ c.length) × (c.length < 32)) (λ c. c.length < 32) (λ c p. p.1) cs a in
     let s = halved (ticked cs) in
     let S = halved_sofar (ticked cs) (ticked_length cs) in
     let has : (c : Chord) → Among cs c → listed s c.length ≡ true = λ c j. S.keeps c.length (ticked_has cs c short j) in
-    let size : (c : Chord) → Among cs c → (1 ≤ c.length) × (c.length < 32) = λ c j. let p = among_all OnGrid cs c a j in (p.2, p.3) in
+    let size : (c : Chord) → Among cs c → (1 ≤ c.length) × (c.length < 32) = λ c j. among_all (λ d. (1 ≤ d.length) × (d.length < 32)) cs c a j in
     let one = one_listed s S.closed 31 ch.length (omega (arith, (size ch i).1)) (size ch i).0 (size ch i).1 (has ch i) in
     record {
       more = filter (listed s) (range_with_len 2 30);

@@ -6,6 +6,7 @@ use Rattle.std.proofs.lemmas.List.Sums.{prefix_len-le-length}
 use Rattle.std.proofs.lemmas.List.{append-nil, length_push}
 use Rattle.std.proofs.lemmas.Int.{ints}
 use Rattle.std.proofs.lemmas.Bool.{cases_Bool, cases_eq, cases_lt, and_parts, and_from, both_ways, not-true, not_from_false}
+use Rattle.std.proofs.ByRecursion.{All-weaker}
 use Rattle.masks.specs.Points.{Among, Earlier, InOrder}
 use Rattle.masks.specs.Rows.{marked, holds, points}
 use Rattle.masks.specs.Chords.{run, starts_at, starts, chord_at, chords, OnGrid, IsChord, first_point, AllChords}
@@ -238,6 +239,10 @@ module _ (rows : List ℕ) where
       let r = q.2 in
       let c = q.3 in
       ((omega (arith, ints), omega (arith, ints)), (omega (arith, ints), omega (arith, ints)), R.some, omega arith))
+
+  -- a chord has from 1 to 31 points
+  pub chord_sizes : AllByRecursion (λ ch. (1 ≤ ch.length) × (ch.length < 32)) (chords rows 31)
+  chord_sizes = All-weaker OnGrid (λ ch. (1 ≤ ch.length) × (ch.length < 32)) (λ ch p. (p.2, p.3)) (chords rows 31) chords_on_grid
 
   -- the points from column k to column c stand without a gap, and a chord starts in column k
   stretch : (c r : ℕ) → marked rows c r ≡ true → (k : ℕ) × (k ≤ c) × (starts_at rows r k ≡ true) × ((j : ℕ) → k ≤ j → j ≤ c → marked rows j r ≡ true)

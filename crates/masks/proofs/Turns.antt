@@ -1,8 +1,7 @@
 -- Rows that were turned about the origin.
-use Rattle.std.proofs.Common.{◌≡◌, ℕ, zero, suc, ◌+◌, ◌-◌, ◌*◌, ◌/◌, ◌%◌, ◌^◌, ◌<◌, Bool, eqb, true, false, ◌&&◌, ltb, List, [], length, reverse, get_or, ℤ, pos, ◌+ℤ◌, neg_ℤ, sym, refl, ap, ◌∙◌, ap₂, inl, inr, arith, w32}
+use Rattle.std.proofs.Common.{◌≡◌, ℕ, zero, suc, ◌+◌, ◌-◌, ◌*◌, ◌/◌, ◌%◌, ◌^◌, ◌<◌, Bool, eqb, true, false, ◌&&◌, ltb, List, [], get_or, ℤ, pos, ◌+ℤ◌, neg_ℤ, sym, refl, ap, ◌∙◌, ap₂, inl, inr, arith, w32}
 use Rattle.std.proofs.Math.Nat.{div-div-eq-div-mul}
 use Rattle.std.proofs.lemmas.Nat.{pow-add}
-use Rattle.std.proofs.lemmas.List.{get_or-reverse}
 use Rattle.std.proofs.lemmas.Int.{ints}
 use Rattle.std.proofs.lemmas.Bool.{lt-ltb, cases_eq}
 use Rattle.std.specs.Int.{reverse_bits, reverse_bits_onto}
@@ -60,14 +59,6 @@ reversed_bit word i h = bit_half i (reverse_bits w32 word) ∙ bit_turned 32 wor
 -- each row is the opposite row with its columns in the opposite order
 abbrev pub Turned : List ℕ → List ℕ → Type 0
 Turned rows out = (r c : ℕ) → r < 31 → c < 31 → bit c (get_or out r 0) ≡ bit (30 - c) (get_or rows (30 - r) 0)
-
--- rows whose columns were put in the opposite order are turned when their own order is reversed
-pub turned_rows : (rows mid out : List ℕ) → length mid ≡ 31 → out ≡ reverse mid → ((r : ℕ) → r < 31 → (c : ℕ) → c < 31 → bit c (get_or mid r 0) ≡ bit (30 - c) (get_or rows r 0)) → Turned rows out
-turned_rows rows mid out long e each r c hr hc =
-    let k : length mid - 1 - r ≡ 30 - r = omega arith in
-    ap (λ (l : List ℕ). bit c (get_or l r 0)) e
-    ∙ ap (bit c) (get_or-reverse mid r 0 (omega arith) ∙ ap (λ (n : ℕ). get_or mid n 0) k)
-    ∙ each (30 - r) (omega arith) c hc
 
 module _ (rows out : List ℕ) (T : Turned rows out) where
   turned_marked : (c r : ℕ) → c < 31 → r < 31 → marked out c r ≡ marked rows (30 - c) (30 - r)

@@ -5,3 +5,4 @@ pub mod Faults
 pub mod Chords
 pub mod Lengths
 pub mod Cost
+pub mod Shown

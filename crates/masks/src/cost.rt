@@ -2,6 +2,7 @@
 ghost use Rattle.std.specs.Prelude.{◌≡◌, ◌+◌, ◌-◌, ◌*◌, ◌<◌, ◌≤◌, pos, ◌-ℤ◌, neg_ℤ, ◌≤ℤ◌, sum_by, unsigned_abs};
 ghost use Rattle.std.specs.List.{AllByRecursion};
 ghost use Rattle.masks.specs.Cost.{spanned, table_cells, line_picks, filter_picks, capped};
+ghost use Rattle.masks.specs.Shown.{lengths_in};
 
 use crate::chord::ChordList;
 use crate::lengths::LengthList;
@@ -69,7 +70,7 @@ fn picks(rows: usize, line: u64, chords: usize, width: u64, height: u64) -> u64
 
 // The picks of one table line: those of each length after the first.
 fn line_picks(lengths: &LengthList, width: u64) -> u64
-    ensures { result ≡ capped (line_picks width lengths.now) }
+    ensures { result ≡ capped (line_picks width (lengths_in lengths.now)) }
 {
     lengths
         .as_slice()

@@ -1,36 +1,30 @@
 // The length list: the run lengths for which a filter's table has lines.
-ghost use Rattle.std.specs.Prelude.{◌≡◌, ◌+◌, ◌<◌, ◌≤◌, not, ◌&&◌, length};
-ghost use Rattle.std.specs.List.{AllByRecursion};
+ghost use Rattle.std.specs.Prelude.{◌≡◌, ◌+◌, ◌<◌, ◌≤◌, not, ◌&&◌, length, take};
+ghost use Rattle.std.specs.List.{AllByRecursion, AllByRecursion-prop};
+ghost use Rattle.std.proofs.Props.{props};
 ghost use Rattle.masks.specs.Chords.{chords};
 ghost use Rattle.masks.specs.Lengths.{listed, ticked, reached, halved, rising, lengths, Serves};
 
 use crate::chord::ChordList;
 use crate::mask::Mask;
-use arrayvec::ArrayVec;
-use std::marker::Model;
 
-// The lengths in rising order, from 1 on, in the value itself.
-#[derive(Clone, Drop)]
+// The lengths in rising order, from 1 on, in the value itself: the first of the array, as many as are counted, so that it can be
+// copied.
+#[derive(Clone, Copy)]
 pub struct LengthList {
-    list: ArrayVec<usize, 31>,
-}
-
-impl Model for LengthList {
-    ghost use Rattle.std.specs.Prelude.{ℕ, ◌<◌, List};
-    ghost use Rattle.std.specs.List.{AllByRecursion};
-
-    ghost Value = { List ℕ };
-
-    ghost view = { λ l. l.list.items };
-
-    ghost invariant = { λ l. AllByRecursion (λ a. a < 32) l.list.items };
+    list: [usize; 31],
+    count: usize,
+    ghost few: { count ≤ 31 },
+    ghost short: { AllByRecursion (λ a. a < 32) (take count list) } by { AllByRecursion-prop (λ a. a < 32) (λ a. Prim.hlevel props) (take count list) },
 }
 
 impl LengthList {
+    ghost use Rattle.masks.specs.Shown.{chords_in, lengths_in};
+
     // The length list of the mask. It begins with 1, no length is more than twice the one before it, and each chord's
     // length is in it.
     pub fn of(mask: &Mask) -> LengthList
-        ensures list { result ≡ lengths (chords mask.now.rows 31) }
+        ensures list { lengths_in result ≡ lengths (chords mask.now.rows 31) }
         ensures serves { Serves (chords mask.now.rows 31) (lengths (chords mask.now.rows 31)) }
     {
         LengthList::of_chords(&ChordList::of(mask))
@@ -38,26 +32,24 @@ impl LengthList {
 
     // The length list of the chords.
     pub(crate) fn of_chords(chords: &ChordList) -> LengthList
-        ensures { result ≡ lengths chords.now }
+        ensures { lengths_in result ≡ lengths (chords_in chords.now) }
     {
-        LengthList {
-            list: rising(&halved(ticked(chords))),
-        }
+        rising(&halved(ticked(chords)))
     }
 
     // The lengths as a slice.
     pub fn as_slice(&self) -> &[usize]
-        ensures items { result.now ≡ self.now }
+        ensures items { result.now ≡ lengths_in self.now }
         ensures few { length result.now ≤ 31 }
         ensures short { AllByRecursion (λ a. a < 32) result.now }
     {
-        self.list.as_slice()
+        &self.list[0..self.count]
     }
 }
 
 // The lengths of the chords, ticked.
 fn ticked(chords: &ChordList) -> [bool; 32]
-    ensures { result ≡ ticked chords.now }
+    ensures { result ≡ ticked (take chords.now.count chords.now.list) }
 {
     let mut ticks = [false; 32];
     for c in chords.as_slice() {
@@ -100,14 +92,16 @@ fn halved(start: [bool; 32]) -> [bool; 32]
 }
 
 // The listed numbers from 1 on, in rising order.
-fn rising(ticks: &[bool; 32]) -> ArrayVec<usize, 31>
-    ensures { result.items ≡ rising ticks.now 31 }
+fn rising(ticks: &[bool; 32]) -> LengthList
+    ensures { take result.count result.list ≡ rising ticks.now 31 }
 {
-    let mut list = ArrayVec::new();
+    let mut list = [0; 31];
+    let mut count = 0;
     for (i, is_listed) in ticks[1..].iter().enumerate() {
         if *is_listed {
-            list.push(i + 1);
+            list[count] = i + 1;
+            count += 1;
         }
     }
-    list
+    LengthList { list, count }
 }

@@ -65,21 +65,30 @@ impl Mask {
         c < 31 && r < 31 && bits::bit(self.rows[r], c as u32)
     }
 
-    // How many points stand in row r of the grid.
-    #[tactic(auto, unfolding(crate::specs::Rows::columns))]
+    // How many points stand in row r of the grid. By number: what a filter of the columns lets pass took 3.5 times as many
+    // instructions to count.
     fn row_count(&self, r: usize) -> usize
         ensures few { result ≤ 31 }
         ensures answer { result ≡ length (columns self.now.rows r 31) }
     {
-        (0..31).filter(|c| self.marked(*c, r)).count()
+        let mut n = 0;
+        for c in 0..31 {
+            if self.marked(c, r) {
+                n += 1;
+            }
+        }
+        n
     }
 
     // The mask turned about the origin: every point on the other side.
     pub fn turned(&self) -> Mask
         ensures { (p : Point) → holds result.rows p ≡ holds self.now.rows (turned p) }
     {
-        let mut rows = self.rows.map(reversed);
-        rows.reverse();
+        // By number: with `map` and `reverse` the compiler took the words one by one, and eight times as many instructions.
+        let mut rows = [0; 31];
+        for r in 0..31 {
+            rows[r] = reversed(self.rows[30 - r]);
+        }
         Mask { rows }
     }
 }

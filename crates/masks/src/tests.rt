@@ -63,9 +63,13 @@ fn the_letter_h_has_five_chords(rt: HostRuntime) -> Result<(), Fail> {
     );
     assert_eq!(rt; chords.extent(), (-1, 1));
     assert_eq!(rt; chords.clone()?.as_slice(), chords.as_slice());
+    let copied = chords;
+    assert_eq!(rt; copied.as_slice(), chords.as_slice());
     let lengths = LengthList::of(&h);
     assert!(rt; lengths.as_slice().len() == 3);
     assert_eq!(rt; lengths.clone()?.as_slice(), lengths.as_slice());
+    let copied = lengths;
+    assert_eq!(rt; copied.as_slice(), lengths.as_slice());
     assert_eq!(rt; cost::rows(&h), 3);
     assert_eq!(rt; cost::table_cells(&h, 4), 306);
     assert_eq!(rt; cost::filter_picks(&h, 4, 4), 454);

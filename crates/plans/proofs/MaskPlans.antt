@@ -14,10 +14,11 @@ use Rattle.masks.proofs.CostBounds.{chords_few, lengths_few, spanned_few}
 use Rattle.masks.proofs.Grids.{same_point}
 use Rattle.masks.proofs.Halving.{lengths_serve, lengths_short}
 use Rattle.masks.proofs.Lists.{all_among}
-use Rattle.masks.proofs.Runs.{some_chord, chords_on_grid, chord_point, point_chord}
+use Rattle.masks.proofs.Runs.{some_chord, chord_sizes, chord_point, point_chord}
 use Rattle.plans.specs.declared.plan.Plan.{Plan}
 use Rattle.plans.specs.declared.placed.PlannedChord.{PlannedChord}
 use Rattle.plans.specs.Sound.{chord_at, Sound}
+use Rattle.plans.specs.Shown.{chords_of, lengths_of}
 use Rattle.plans.specs.Placed.{Below, index_of, planned}
 use Rattle.plans.specs.Plan.{long, point_of, Spells, PlanOf}
 use Rattle.plans.proofs.Finds.{getD_among, among_getD, index_found, climbs_at, climbs_low}
@@ -42,7 +43,7 @@ module _ (ws : List ℕ) (some : points ws 31 ≡ [] → ⊥) (first : ℕ) (A :
   out = map (planned first ns) cs
 
   serves : Serves cs ns
-  serves = let a = some_chord ws some in lengths_serve cs a.0 a.1 (chords_on_grid ws)
+  serves = let a = some_chord ws some in lengths_serve cs a.0 a.1 (chord_sizes ws)
 
   one : 1 ≤ length cs
   one = let a = some_chord ws some in let i = among_getD cs a.0 none a.1 in omega (arith, i.1)
@@ -121,8 +122,8 @@ module _ (ws : List ℕ) (some : points ws 31 ≡ [] → ⊥) (first : ℕ) (A :
   }
 
   -- a plan with these chords, lengths and rows is the mask's
-  module _ (p : Plan) (above : p.above ≡ 15 - first) (rows : p.rows ≡ spanned ws) (ls : p.lengths ≡ ns) (items : p.chords.items ≡ out) where
-    many : length p.chords.items ≡ length cs
+  module _ (p : Plan) (above : p.above ≡ 15 - first) (rows : p.rows ≡ spanned ws) (ls : (lengths_of p) ≡ ns) (items : (chords_of p) ≡ out) where
+    many : length (chords_of p) ≡ length cs
     many = ap length items ∙ as_many
 
     -- a point of a planned chord is that point of the mask's chord

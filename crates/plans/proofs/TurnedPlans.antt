@@ -9,23 +9,24 @@ use Rattle.masks.proofs.Lists.{among_map, map_among}
 use Rattle.plans.specs.declared.plan.Plan.{Plan}
 use Rattle.plans.specs.declared.placed.PlannedChord.{PlannedChord}
 use Rattle.plans.specs.Sound.{chord_at, Within, Sound}
+use Rattle.plans.specs.Shown.{chords_of, lengths_of}
 use Rattle.plans.specs.Placed.{turned_chord}
 use Rattle.plans.specs.Plan.{chord_of, long, point_of, Spells, PlanOf}
 
 module _ (p : Plan) where
   abbrev out : List PlannedChord
-  out = map (turned_chord p.rows p.lengths) p.chords.items
+  out = map (turned_chord p.rows (lengths_of p)) (chords_of p)
 
-  as_many : length out ≡ length p.chords.items
-  as_many = length-map p.chords.items (turned_chord p.rows p.lengths)
+  as_many : length out ≡ length (chords_of p)
+  as_many = length-map (chords_of p) (turned_chord p.rows (lengths_of p))
 
-  at_chord : (q : ℕ) → q < length p.chords.items → chord_at out q ≡ turned_chord p.rows p.lengths (chord_of p q)
-  at_chord q h = get_or-map (turned_chord p.rows p.lengths) p.chords.items q (record { row = 0; column = 0; index = 0 }) (record { row = 0; column = 0; index = 0 }) h
+  at_chord : (q : ℕ) → q < length (chords_of p) → chord_at out q ≡ turned_chord p.rows (lengths_of p) (chord_of p q)
+  at_chord q h = get_or-map (turned_chord p.rows (lengths_of p)) (chords_of p) q (record { row = 0; column = 0; index = 0 }) (record { row = 0; column = 0; index = 0 }) h
 
-  at_long : (q : ℕ) → q < length p.chords.items → get_or p.lengths (chord_at out q).index 0 ≡ long p q
-  at_long q h = ap (λ (c : PlannedChord). get_or p.lengths c.index 0) (at_chord q h)
+  at_long : (q : ℕ) → q < length (chords_of p) → get_or (lengths_of p) (chord_at out q).index 0 ≡ long p q
+  at_long q h = ap (λ (c : PlannedChord). get_or (lengths_of p) c.index 0) (at_chord q h)
 
-  pub turned_sound : Sound (p.rows - 1 - p.above) p.rows p.lengths out
+  pub turned_sound : Sound (p.rows - 1 - p.above) p.rows (lengths_of p) out
   turned_sound = record {
     some_chord = let s = p.sound.some_chord in omega (arith, s, as_many);
     few_chords = let s = p.sound.few_chords in omega (arith, s, as_many);
@@ -39,24 +40,24 @@ module _ (p : Plan) where
     low = p.sound.low;
     top = p.sound.top;
     chords = λ q l.
-        let h : q < length p.chords.items = omega (arith, l, as_many) in
+        let h : q < length (chords_of p) = omega (arith, l, as_many) in
         let w = p.sound.chords q h in
         let n = p.sound.low (chord_of p q).index w.index in
-        subst (Within p.rows (length p.lengths)) (sym (at_chord q h)) (record { row = omega (arith, w.row); index = w.index; column = omega (arith, n) });
+        subst (Within p.rows (length (lengths_of p))) (sym (at_chord q h)) (record { row = omega (arith, w.row); index = w.index; column = omega (arith, n) });
     ends = λ q l.
-        let h : q < length p.chords.items = omega (arith, l, as_many) in
+        let h : q < length (chords_of p) = omega (arith, l, as_many) in
         let e = p.sound.ends q h in omega (arith, e, at_long q h, ap (λ (c : PlannedChord). c.column) (at_chord q h));
   }
 
-  module _ (t : Plan) (above : t.above ≡ p.rows - 1 - p.above) (rows : t.rows ≡ p.rows) (ls : t.lengths ≡ p.lengths) (items : t.chords.items ≡ out) where
-    many : length t.chords.items ≡ length p.chords.items
+  module _ (t : Plan) (above : t.above ≡ p.rows - 1 - p.above) (rows : t.rows ≡ p.rows) (ls : (lengths_of t) ≡ (lengths_of p)) (items : (chords_of t) ≡ out) where
+    many : length (chords_of t) ≡ length (chords_of p)
     many = ap length items ∙ as_many
 
-    same_long : (q : ℕ) → q < length p.chords.items → long t q ≡ long p q
+    same_long : (q : ℕ) → q < length (chords_of p) → long t q ≡ long p q
     same_long q h = ap₂ (λ (l : List ℕ) (xs : List PlannedChord). get_or l (chord_at xs q).index 0) ls items ∙ at_long q h
 
     -- point j of a turned chord is point i of the chord, from its other end, turned
-    across : (q i j : ℕ) → q < length p.chords.items → i + j + 1 ≡ long p q → point_of t q j ≡ turned (point_of p q i)
+    across : (q i j : ℕ) → q < length (chords_of p) → i + j + 1 ≡ long p q → point_of t q j ≡ turned (point_of p q i)
     across q i j h e =
         let w = (p.sound.chords q h).row in
         let o = p.sound.origin in
@@ -68,7 +69,7 @@ module _ (p : Plan) where
     turned_spells : (ps : List Point) → Spells p ps → Spells t (map turned ps)
     turned_spells ps P = record {
       each = λ q j k l.
-          let h : q < length p.chords.items = omega (arith, k, many) in
+          let h : q < length (chords_of p) = omega (arith, k, many) in
           let n = long p q in
           let s = same_long q h in
           let lt : j < n = omega (arith, l, s) in

@@ -2,11 +2,13 @@
 ghost use Rattle.std.specs.Prelude.{◌≡◌, ◌+◌, ◌-◌, ◌≤◌, map, length, pos, ◌+ℤ◌, slice_index};
 ghost use Rattle.std.specs.List.{AllByRecursion};
 ghost use Rattle.masks.specs.Chords.{Near, OnGrid};
+ghost use Rattle.masks.specs.Shown.{chords_in, lengths_in};
 ghost use Rattle.plans.specs.Sound.{Within};
 ghost use Rattle.plans.specs.Placed.{Below, index_of, planned, turned_chord};
+ghost use Rattle.plans.specs.Shown.{planned_in, lengths_of, chords_of};
 
 use crate::plan::Plan;
-use arrayvec::ArrayVec;
+use crate::planned::PlannedChords;
 use masks::chord::{Chord, ChordList};
 use masks::lengths::LengthList;
 
@@ -22,10 +24,10 @@ pub struct PlannedChord {
 }
 
 // The chords turned about the origin, each in its place.
-pub(crate) fn turned_chords(plan: &Plan) -> ArrayVec<PlannedChord, 496>
-    ensures { result.items ≡ map (turned_chord plan.now.rows plan.now.lengths) plan.now.chords.items }
+pub(crate) fn turned_chords(plan: &Plan) -> PlannedChords
+    ensures { planned_in result ≡ map (turned_chord plan.now.rows (lengths_of plan.now)) (chords_of plan.now) }
 {
-    let mut turned = ArrayVec::new();
+    let mut turned = PlannedChords::new();
     for c in plan.chords.as_slice() {
         turned.push(turned_chord(plan, *c));
     }
@@ -34,9 +36,9 @@ pub(crate) fn turned_chords(plan: &Plan) -> ArrayVec<PlannedChord, 496>
 
 // The chord on the other side of the origin.
 fn turned_chord(plan: &Plan, c: PlannedChord) -> PlannedChord
-    requires within { Within plan.now.rows (length plan.now.lengths) c }
-    requires ends { c.column + slice_index plan.now.lengths c.index ≤ 31 }
-    ensures { result ≡ turned_chord plan.now.rows plan.now.lengths c }
+    requires within { Within plan.now.rows (length (lengths_of plan.now)) c }
+    requires ends { c.column + slice_index (lengths_of plan.now) c.index ≤ 31 }
+    ensures { result ≡ turned_chord plan.now.rows (lengths_of plan.now) c }
 {
     PlannedChord {
         row: plan.rows - 1 - c.row,
@@ -64,15 +66,11 @@ pub(crate) fn grid_place(offset: i32) -> usize
 }
 
 // The chords in the coordinates of the table, whose first row is `first`.
-pub(crate) fn placed(
-    chords: &ChordList,
-    lengths: &LengthList,
-    first: usize,
-) -> ArrayVec<PlannedChord, 496>
-    requires { AllByRecursion (Below first) chords.now }
-    ensures { result.items ≡ map (planned first lengths.now) chords.now }
+pub(crate) fn placed(chords: &ChordList, lengths: &LengthList, first: usize) -> PlannedChords
+    requires { AllByRecursion (Below first) (chords_in chords.now) }
+    ensures { planned_in result ≡ map (planned first (lengths_in lengths.now)) (chords_in chords.now) }
 {
-    let mut list = ArrayVec::new();
+    let mut list = PlannedChords::new();
     for c in chords.as_slice() {
         list.push(placed_chord(*c, lengths.as_slice(), first));
     }

@@ -1,23 +1,24 @@
 // The plan of a filter under a mask.
+ghost use Rattle.std.specs.Prelude.{take};
 ghost use Rattle.plans.specs.Sound.{Sound};
 
-use crate::placed::{PlannedChord, grid_place, placed, turned_chords};
-use arrayvec::ArrayVec;
+use crate::placed::{grid_place, placed, turned_chords};
+use crate::planned::PlannedChords;
 use masks::chord::ChordList;
 use masks::cost::rows;
 use masks::lengths::LengthList;
 use masks::mask::Mask;
 
 // The chords of a mask with the places of their lengths, its length list, and its rows. They fit each other.
-#[derive(Drop)]
+#[derive(Clone, Copy)]
 pub struct Plan {
     // How many rows lie above the origin.
     pub above: usize,
     // V: how many rows there are.
     pub rows: usize,
     pub lengths: LengthList,
-    pub chords: ArrayVec<PlannedChord, 496>,
-    ghost sound: { Sound above rows lengths chords.items },
+    pub chords: PlannedChords,
+    ghost sound: { Sound above rows (take lengths.count lengths.list) (take chords.count chords.list) },
 }
 
 impl Plan {

@@ -1,4 +1,5 @@
 pub mod Equal
+mod Wholes
 mod Laid
 mod WholeRows
 mod Parts

@@ -9,4 +9,3 @@ pub mod TilePlaces
 pub mod SouthUp
 pub mod Part
 pub mod Copied
-pub mod Wholes

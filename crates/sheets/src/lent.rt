@@ -63,13 +63,10 @@ impl<'a, C: Copy, L: Layout> Lent<'a, C, L> {
 
 impl<'a, C: Copy, L: Layout> Holder for Lent<'a, C, L> {
     ghost use Rattle.sheets.specs.Lent.{lent_sheet};
-    ghost use Rattle.sheets.specs.Wholes.{held_whole};
 
     type Cell = C;
 
     ghost sheet = { lent_sheet L.room L.place };
-
-    ghost whole = { λ h. held_whole (L.room h.size.width h.size.height) h.size.width h.size.height (L.place h.size.width) h.cells.now (L.within h.size.width h.size.height) };
 
     fn size(&self) -> Size {
         self.size

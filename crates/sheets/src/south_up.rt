@@ -1,7 +1,6 @@
 // A holder's sheet with its southmost row first.
 ghost use Rattle.std.specs.Prelude.{◌≡◌};
 ghost use Rattle.sheets.specs.SouthUp.{from_south, flipped, turned_sheet};
-ghost use Rattle.sheets.specs.Wholes.{flipped_whole};
 
 use crate::holder::{Holder, Size};
 
@@ -32,8 +31,6 @@ impl<H: Holder> Holder for SouthUp<H> {
     type Cell = H::Cell;
 
     ghost sheet = { turned_sheet H.Holder.sheet };
-
-    ghost whole = { λ u. flipped_whole (H.Holder.sheet u.inner) (H.whole u.inner) };
 
     fn size(&self) -> Size {
         self.inner.size()

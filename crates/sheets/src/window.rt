@@ -2,7 +2,6 @@
 ghost use Rattle.std.specs.Prelude.{◌≡◌, ◌+◌, if◌then◌else◌, Some, None};
 ghost use Rattle.sheets.specs.Sheet.{has, put_at};
 ghost use Rattle.sheets.specs.Part.{overlap, unless_none, part, window_sheet, put_through};
-ghost use Rattle.sheets.specs.Wholes.{part_whole};
 
 use crate::holder::{Holder, Size};
 
@@ -61,8 +60,6 @@ where
     type Cell = H::Cell;
 
     ghost sheet = { window_sheet H.Holder.sheet };
-
-    ghost whole = { λ u. part_whole (H.Holder.sheet u.inner) u.asked (H.whole u.inner) };
 
     fn size(&self) -> Size {
         clipped(self.inner.size(), self.asked)

@@ -5,6 +5,7 @@ use Rattle.cells.specs.Lattice.{dual}
 use Rattle.masks.specs.Cost.{line_picks}
 use Rattle.sheets.specs.Sheet.{shown}
 use Rattle.morphology.specs.declared.place.Place.{Place}
+use Rattle.plans.specs.Shown.{lengths_of, chords_of}
 use Rattle.filters.specs.Find.{RowHits, note}
 use Rattle.filters.specs.Line.{entry}
 use Rattle.filters.specs.declared.course.Course.{Course}
@@ -79,19 +80,19 @@ loop-y-preserved g c =
     let B = goes_same f k.greatest q w behind.new.self.course back behind.ensures.course I.3 in
     let fores = c.row.result.now in
     let backs = c.row-in-loop-y.result.now in
-    let room : p.rows * length p.lengths * (w + 30) ≤ length t = omega (arith, c.requires.fore, I.0, c.first_lines-picks.auto.table, forth.auto.table) in
-    let room' : q.rows * length q.lengths * (w + 30) ≤ length r = omega (arith, c.requires.back, I.1, c.first_lines-picks-2.auto.table, behind.auto.table) in
+    let room : p.rows * length (lengths_of p) * (w + 30) ≤ length t = omega (arith, c.requires.fore, I.0, c.first_lines-picks.auto.table, forth.auto.table) in
+    let room' : q.rows * length (lengths_of q) * (w + 30) ≤ length r = omega (arith, c.requires.back, I.1, c.first_lines-picks-2.auto.table, behind.auto.table) in
     let wide : length fores ≡ w = row_long f k.least p w forth.new.self F t fores room c.row.ensures in
-    let a : ℕ = forth.new.self.slot * length fore.plan.lengths * (fore.width + 30) in
-    let b : ℕ = behind.new.self.slot * length back.plan.lengths * (back.width + 30) in
-    let at_a = ap (λ (x : Course g.row.H-Cell.Denot). forth.new.self.slot * length x.plan.lengths * (x.width + 30)) forth.ensures.course in
-    let at_b = ap (λ (x : Course g.row.H-Cell.Denot). behind.new.self.slot * length x.plan.lengths * (x.width + 30)) behind.ensures.course in
+    let a : ℕ = forth.new.self.slot * length (lengths_of fore.plan) * (fore.width + 30) in
+    let b : ℕ = behind.new.self.slot * length (lengths_of back.plan) * (back.width + 30) in
+    let at_a = ap (λ (x : Course g.row.H-Cell.Denot). forth.new.self.slot * length (lengths_of x.plan) * (x.width + 30)) forth.ensures.course in
+    let at_b = ap (λ (x : Course g.row.H-Cell.Denot). behind.new.self.slot * length (lengths_of x.plan) * (x.width + 30)) behind.ensures.course in
     let shown_fore = forth.ensures.row s (λ x j h. refl) I.7 in
     let shown_back = behind.ensures.row s (λ x j h. refl) I.8 in
     let ew : w ≡ s.width = c.requires.size.1.1.0 in
     let below : y < s.height = omega (arith, c.requires.size.1.1.1) in
-    let more = times_more y (y + 1) (line_picks w p.lengths + w * (length p.chords.items - 1)) refl in
-    let more' = times_more y (y + 1) (line_picks w q.lengths + w * (length q.chords.items - 1)) refl in
+    let more = times_more y (y + 1) (line_picks w (lengths_of p) + w * (length (chords_of p) - 1)) refl in
+    let more' = times_more y (y + 1) (line_picks w (lengths_of q) + w * (length (chords_of q) - 1)) refl in
     let L = c.list_row-hits.ensures.hits in
     let R : RowHits k f y fores backs w L.0 = subst (λ (n : ℕ). RowHits k f y fores backs n L.0) wide L.1 in (
       forth.auto.table ∙ I.0,
@@ -107,11 +108,11 @@ loop-y-preserved g c =
           let H = I.9 ps qs P Q in (
             H.0 ++ L.0,
             hits_more k f ps qs (shown f s) y w fores backs H.0 L.0
-                (row_says k f s p q ps qs P Q (g.met.H.Holder.whole c.args.h.now) t r fores backs a b w y ew below
+                (row_says k f s p q ps qs P Q c.requires.whole t r fores backs a b w y ew below
                 (λ x h. row_cell f k.least p w forth.new.self F t fores room c.row.ensures k.least k.greatest x h ∙ ap (λ (n : ℕ). entry k f t (n + x)) at_a)
                 (λ x h. row_cell f k.greatest q w behind.new.self B r backs room' c.row-in-loop-y.ensures k.greatest k.least x h ∙ ap (λ (n : ℕ). entry (dual k) f r (n + x)) at_b)
                 (laid_gathered f k.least p w fore I.2 k s t a y shown_fore.0) (laid_gathered f k.greatest q w back I.3 (dual k) s r b y shown_back.0))
-                (λ x h. let i = has_inside f s (g.met.H.Holder.whole c.args.h.now) x y h.on in omega (arith, i.0, ew)) H.1 R,
+                (λ x h. let i = has_inside f s c.requires.whole x y h.on in omega (arith, i.0, ew)) H.1 R,
             L.2 ∙ ap (λ (n : ℕ). n + length L.0) H.2 ∙ sym (length-append H.0 L.0),
             L.3 ∙ ap₂ (λ (n : ℕ) (l : List Place). note n L.0 l) H.2 H.3 ∙ sym (note_more H.0 L.0 c.args.places.now),
           ),
@@ -124,7 +125,7 @@ returns-clause-hits g c = λ fores backs P Q.
     let I = c.loop-y.invariant.9 fores backs P Q in (
       I.0,
       hits_all g.H.Cell.Kind.lattice fores backs (shown f s) c.loop-y.y I.0
-          (λ p h. let i = has_inside f s (g.met.H.Holder.whole c.args.h.now) p.x p.y h.on in omega (arith, i.1, c.requires.size.1.1.1)) I.1,
+          (λ p h. let i = has_inside f s c.requires.whole p.x p.y h.on in omega (arith, i.1, c.requires.size.1.1.1)) I.1,
       I.2,
       I.3 ∙ note_listed I.0 c.args.places.now,
     )
@@ -136,10 +137,10 @@ returns-clause-picks g c =
     let w = c.args.size.width in
     let h = c.args.size.height in
     let y : c.loop-y.y ≡ h = omega (arith, c.loop-y.auto.y-end) in
-    let line = line_picks w p.lengths in
-    let line' = line_picks w q.lengths in
-    let row = w * (length p.chords.items - 1) in
-    let row' = w * (length q.chords.items - 1) in
+    let line = line_picks w (lengths_of p) in
+    let line' = line_picks w (lengths_of q) in
+    let row = w * (length (chords_of p) - 1) in
+    let row' = w * (length (chords_of q) - 1) in
     c.loop-y.invariant.6
     ∙ ap (λ (n : ℕ). (p.rows - 1) * line + n * (line + row) + ((q.rows - 1) * line' + n * (line' + row'))) y
     ∙ ap₂ (λ (a b : ℕ). a + b) (rows_picks h p.rows line row (omega (arith, p.sound.origin))) (rows_picks h q.rows line' row' (omega (arith, q.sound.origin)))

@@ -5,6 +5,7 @@ use Rattle.std.proofs.lemmas.Iterator.Consumers.{YieldsList-from_enumerate, Yiel
 use Rattle.std.proofs.lemmas.List.{length_push}
 use Rattle.cells.specs.Lattice.{Under}
 use Rattle.plans.specs.Plan.{length_of}
+use Rattle.plans.specs.Shown.{lengths_of}
 use Rattle.filters.specs.Side.{side}
 use Rattle.filters.specs.Line.{entry, Runs}
 use Rattle.filters.proofs.Rooms.{part_room, part_next}
@@ -26,7 +27,7 @@ lengthen-picks-requires g c =
     let lens = c.as_slice-lengths.result.now in
     let t = YieldsList-turn (YieldsList-from_enumerate (YieldsList-from_zip (YieldsList-from_slice lens cc) (YieldsList-from_slice (take (length lens - 1) (drop 1 lens)) cc)) cc) c.loop-i.yielded c.loop-i.i-iterator c.loop-i.yielded_by c.next.result c.next.new.self (c.in-Some.i, (c.in-Some.shorter, c.in-Some.longer)) c.in-Some.is c.next.ensures.steps in
     let T = turn p lens c.as_slice-lengths.ensures.items n c.in-Some.i c.in-Some.shorter.now c.in-Some.longer.now t.0 t.1 in
-    let room = part_room (n + 1) (length p.lengths) (w + 30) T.within in
+    let room = part_room (n + 1) (length (lengths_of p)) (w + 30) T.within in
     let next = part_next (n + 1) (w + 30) T.one in
     let here_at : c.in-Some.i * (w + 30) ≡ n * (w + 30) = ap (λ (k : ℕ). k * (w + 30)) T.here in
     let next_at : (c.in-Some.i + 1) * (w + 30) ≡ (n + 1) * (w + 30) = ap (λ (k : ℕ). (k + 1) * (w + 30)) T.here in
@@ -61,6 +62,6 @@ loop-i-preserved g c =
     (λ x h. e.beside.before k.greatest x (omega (arith, h, this))) c.loop-i.invariant.2 in
     rw (length_push c.loop-i.yielded (c.in-Some.i, (c.in-Some.shorter, c.in-Some.longer))) (
       omega (arith, picks, T.top, c.loop-i.invariant.0),
-      omega (arith, picks, T.top, picks_more w p.lengths (n + 1) T.one T.within, c.loop-i.invariant.1),
+      omega (arith, picks, T.top, picks_more w (lengths_of p) (n + 1) T.one T.within, c.loop-i.invariant.1),
       made,
     )

@@ -1,6 +1,7 @@
 -- The runs are built over the single cells that were loaded, so they are runs of the line's cells.
 use Rattle.std.proofs.Common.{◌≡◌, ◌+◌, ◌≤◌, length, ap, ◌∙◌, arith, rules}
 use Rattle.std.proofs.lemmas.List.{places}
+use Rattle.plans.specs.Shown.{lengths_of}
 use Rattle.filters.specs.Side.{side}
 use Rattle.filters.specs.Line.{entry}
 use Rattle.filters.proofs.Entries.{at_part}
@@ -12,7 +13,7 @@ pub returns : goal.returns
 returns g c =
     let p = c.args.course.now.plan in
     let w = c.args.course.now.width in
-    let room = part_room 0 (length p.lengths) (w + 30) p.sound.some_length in
+    let room = part_room 0 (length (lengths_of p)) (w + 30) p.sound.some_length in
     let k = side g.S.Side.lower g.H.Cell.Kind.lattice in
     let f = g.H.Cell.Kind.means in
     let old = c.args.lines.now in

@@ -1,6 +1,7 @@
 -- A row more is a result. When all rows are, the sheet is the erosion.
 use Rattle.std.proofs.Common.{◌≡◌, ℕ, ◌+◌, ◌-◌, ◌*◌, ◌≤◌, length, Some, refl, sym, ap, ◌∙◌, subst, arith}
 use Rattle.masks.specs.Cost.{line_picks}
+use Rattle.plans.specs.Shown.{lengths_of, chords_of}
 use Rattle.filters.specs.Side.{side}
 use Rattle.filters.specs.Line.{entry}
 use Rattle.filters.specs.declared.course.Course.{Course}
@@ -46,7 +47,7 @@ put_row-requires g c =
     let M : Mixed k f p s.width s t y = subst (λ (n : ℕ). Mixed k f p n s t y) ew c.loop-y.invariant.3 in
     let long = row_long f k.greatest p w ring G c.next_row-picks.new.table c.row.result.now
     (omega (arith, c.requires.room, c.loop-y.auto.table, c.first_lines-picks.auto.table, c.next_row-picks.auto.table)) c.row.ensures in
-    record { wide = M.width ∙ sym ew ∙ sym long; on = λ x h. row_has k f p s t y x (g.met.H.Holder.whole c.args.h.now) M (omega (arith, eh)) (omega (arith, long, ew)) }
+    record { wide = M.width ∙ sym ew ∙ sym long; on = λ x h. row_has k f p s t y x c.requires.whole M (omega (arith, eh)) (omega (arith, long, ew)) }
 
 pub loop-y-preserved : goal.loop-y-preserved
 loop-y-preserved g c =
@@ -65,11 +66,11 @@ loop-y-preserved g c =
     let I = c.loop-y.invariant in
     let e = next.course in
     let G = goes_same f k.greatest p w ring.course course e I.2 in
-    let more = times_more y (y + 1) (line_picks w p.lengths + w * (length p.chords.items - 1)) refl in
+    let more = times_more y (y + 1) (line_picks w (lengths_of p) + w * (length (chords_of p) - 1)) refl in
     let both = next.row s I.3.left I.4 in
-    let start : ℕ = ring.slot * length course.plan.lengths * (course.width + 30) in
-    let same = ap (λ (x : Course g.row.H-Cell.Denot). ring.slot * length x.plan.lengths * (x.width + 30)) e in
-    let room : p.rows * length p.lengths * (w + 30) ≤ length new = omega (arith, c.requires.room, c.loop-y.auto.table, c.first_lines-picks.auto.table, c.next_row-picks.auto.table) in
+    let start : ℕ = ring.slot * length (lengths_of course.plan) * (course.width + 30) in
+    let same = ap (λ (x : Course g.row.H-Cell.Denot). ring.slot * length (lengths_of x.plan) * (x.width + 30)) e in
+    let room : p.rows * length (lengths_of p) * (w + 30) ≤ length new = omega (arith, c.requires.room, c.loop-y.auto.table, c.first_lines-picks.auto.table, c.next_row-picks.auto.table) in
     let long = row_long f k.greatest p w ring G new c.row.result.now room c.row.ensures in
     let row = row_cell f k.greatest p w ring G new c.row.result.now room c.row.ensures k.greatest k.greatest in
     let put = c.put_row.ensures in (
@@ -96,11 +97,11 @@ returns g c =
     let t = g.H.Holder.sheet c.loop-y.h in
     let ew = c.requires.size.1.1.0 in
     let eh = c.requires.size.1.1.1 in
-    let lp = line_picks w p.lengths in
-    let row = w * (length p.chords.items - 1) in
+    let lp = line_picks w (lengths_of p) in
+    let row = w * (length (chords_of p) - 1) in
     let end : c.loop-y.y ≡ c.args.size.height = omega (arith, c.loop-y.auto.y-end) in
     let M : Mixed k f p s.width s t s.height = subst (λ (n : ℕ). Mixed k f p n s t s.height) ew (subst (Mixed k f p w s t) (end ∙ eh) c.loop-y.invariant.3) in
     record {
       picks = c.loop-y.invariant.1 ∙ ap (λ (y : ℕ). (p.rows - 1) * lp + y * (lp + row)) end ∙ rows_picks c.args.size.height p.rows lp row (omega (arith, p.sound.origin));
-      after = λ ps P. mixed_eroded k f p s t ps M (g.met.H.Holder.whole c.args.h.now) P;
+      after = λ ps P. mixed_eroded k f p s t ps M c.requires.whole P;
     }

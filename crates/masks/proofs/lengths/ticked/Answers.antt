@@ -1,6 +1,7 @@
 -- A turn ticks one chord's length.
 use Rattle.std.proofs.Common.{◌<◌, Bool, true, List, length, get_or, set, pos, sym, refl, ◌∙◌, subst, ap₂, length-set}
 use Rattle.masks.specs.declared.chord.Chord.{Chord}
+use Rattle.masks.specs.Shown.{chords_in}
 use Rattle.masks.proofs.Halving.{ticked_none, ticked_more}
 use Rattle.masks.proofs.lengths.ticked.Goals as goal
 
@@ -12,7 +13,7 @@ loop-c-init c = (refl, sym ticked_none)
 
 pub loop-c-preserved : goal.loop-c-preserved
 loop-c-preserved c =
-    let cs = c.args.chords.now in
+    let cs = chords_in c.args.chords.now in
     let i = c.loop-c.c-index in
     let e = c.as_slice-c-items.ensures.items in (
       simp length-set c.loop-c.invariant.0,

@@ -5,6 +5,7 @@ use Rattle.plans.specs.Plan.{chord_of}
 use Rattle.plans.specs.Sound.{chord_at}
 use Rattle.plans.specs.declared.plan.Plan.{Plan}
 use Rattle.plans.specs.declared.placed.PlannedChord.{PlannedChord}
+use Rattle.plans.specs.Shown.{lengths_of}
 use Rattle.filters.specs.Side.{side, cell_at}
 use Rattle.filters.specs.Row.{base_of, picked, run_of}
 use Rattle.filters.proofs.Entries.{at_read, fill_more, keep_more, line_more, beside_more}
@@ -18,7 +19,7 @@ loop-i-preserved g c =
     let p = c.args.self.now.course.plan in
     let lt : c.loop-i.i < length c.loop-i.row = omega arith in
     let lb : c.base-first.result + c.loop-i.i < length c.args.table.now = omega arith in
-    let place = c.base-first.ensures.place ∙ ap (λ (cs : List PlannedChord). base_of p.rows (length p.lengths) (c.args.self.now.course.width + 30) c.args.self.now.slot (chord_at cs 0)) c.as_slice-chords.ensures.value in (
+    let place = c.base-first.ensures.place ∙ ap (λ (cs : List PlannedChord). base_of p.rows (length (lengths_of p)) (c.args.self.now.course.width + 30) c.args.self.now.slot (chord_at cs 0)) c.as_slice-chords.ensures in (
       simp length-set c.loop-i.invariant.0,
       λ z. fill_more g.K.Kind.means z c.loop-i.row c.loop-i.i c.index-table-first.result _ lt
           (let r = at_read g.K.Kind.means z c.args.table.now (c.base-first.result + c.loop-i.i) c.index-table-first.result lb c.index-table-first.is in cc (r, place))
@@ -26,7 +27,7 @@ loop-i-preserved g c =
     )
 
 -- an entry that was read is what its chord gives at the column
-run_read : {K C : Type 0} (f : K → C) (z : C) (t : List K) (p : Plan) (stride oldest x q base : ℕ) (v : K) → base + x < length t → base ≡ base_of p.rows (length p.lengths) stride oldest (chord_of p q) → v ≡ get_or t (base + x) v → f v ≡ run_of f z t p stride oldest x q
+run_read : {K C : Type 0} (f : K → C) (z : C) (t : List K) (p : Plan) (stride oldest x q base : ℕ) (v : K) → base + x < length t → base ≡ base_of p.rows (length (lengths_of p)) stride oldest (chord_of p q) → v ≡ get_or t (base + x) v → f v ≡ run_of f z t p stride oldest x q
 run_read f z t p stride oldest x q base v l place e =
     sym (at_read f z t (base + x) v l e) ∙ ap (λ (n : ℕ). cell_at f z t (n + x)) place
 
@@ -45,7 +46,7 @@ loop-x-preserved g c =
     let lc : c.base-c.result + x < length t = omega arith in
     let ld : c.base-d.result + x < length t = omega arith in
     let le : x ≤ x = omega arith in
-    let at = λ (q : ℕ). ap (λ (cs : List PlannedChord). base_of p.rows (length p.lengths) (w + 30) c.args.self.now.slot (chord_at cs q)) c.as_slice-chords.ensures.value in (
+    let at = λ (q : ℕ). ap (λ (cs : List PlannedChord). base_of p.rows (length (lengths_of p)) (w + 30) c.args.self.now.slot (chord_at cs q)) c.as_slice-chords.ensures in (
       simp length-set c.loop-x.invariant.0,
       omega arith,
       λ z. fill_more f z c.loop-x.row x c.pick-in-loop-x-2.result _ lt
@@ -73,8 +74,8 @@ loop-x-2-preserved g c =
     let lt : x < length c.loop-x-2.row = omega arith in
     let lb : c.base-from.result + x < length t = omega arith in
     let le : x ≤ x = omega arith in
-    let place : c.base-from.result ≡ base_of p.rows (length p.lengths) (w + 30) c.args.self.now.slot (chord_of p (n + 1)) =
-    c.base-from.ensures.place ∙ ap (base_of p.rows (length p.lengths) (w + 30) c.args.self.now.slot) (let e = c.as_slice-chords.ensures.value in search (rules, places)) in (
+    let place : c.base-from.result ≡ base_of p.rows (length (lengths_of p)) (w + 30) c.args.self.now.slot (chord_of p (n + 1)) =
+    c.base-from.ensures.place ∙ ap (base_of p.rows (length (lengths_of p)) (w + 30) c.args.self.now.slot) (let e = c.as_slice-chords.ensures in search (rules, places)) in (
       simp length-set c.loop-x-2.invariant.0,
       omega arith,
       λ z. fill_more f z c.loop-x-2.row x c.pick-in-loop-x-2-2.result _ lt
@@ -90,7 +91,7 @@ loop-x-2-preserved g c =
 room : (g : given.Over) (c : goal.After-index-row-c g) → c.start-start.result + c.loop-c.c < length c.loop-c.table
 room g c =
     let p = c.args.self.now.course.plan in
-    let n = length p.lengths in
+    let n = length (lengths_of p) in
     let w = c.args.self.now.course.width in
     omega (arith, c.start-start.ensures, c.requires, c.loop-c.auto.table, slot_room c.args.self.now.slot p.rows n (w + 30) c.args.self.now.due, part_room 0 n (w + 30) p.sound.some_length)
 

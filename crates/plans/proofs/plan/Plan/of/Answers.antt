@@ -8,6 +8,8 @@ use Rattle.masks.specs.declared.chord.Chord.{Chord}
 use Rattle.masks.specs.Chords.{chords}
 use Rattle.masks.specs.Lengths.{lengths}
 use Rattle.plans.specs.declared.placed.PlannedChord.{PlannedChord}
+use Rattle.masks.specs.Shown.{chords_in, lengths_in}
+use Rattle.plans.specs.Shown.{planned_in}
 use Rattle.plans.specs.Placed.{Below, planned}
 use Rattle.plans.proofs.Extents.{north}
 use Rattle.plans.proofs.MaskPlans.{from_first, plan_sound, mask_plan}
@@ -28,7 +30,7 @@ placed-requires c =
     let ws = c.args.mask.now.rows in
     let first = c.grid_place-first.result in
     let fits : SFits w32 c.extent-north.result.0 = search rules in
-    let A = first_is ws first c.extent-north.result.0 c.of-chords.result fits c.grid_place-first.ensures c.extent-north.ensures.north c.of-chords.ensures.list in
+    let A = first_is ws first c.extent-north.result.0 (chords_in c.of-chords.result) fits c.grid_place-first.ensures c.extent-north.ensures.north c.of-chords.ensures.list in
     subst (AllByRecursion (Below first)) (sym c.of-chords.ensures.list) (from_first ws first A)
 
 pub invariant_of-result : goal.invariant_of-result
@@ -36,8 +38,8 @@ invariant_of-result c =
     let ws = c.args.mask.now.rows in
     let first = c.grid_place-first.result in
     let fits : SFits w32 c.extent-north.result.0 = search rules in
-    let A = first_is ws first c.extent-north.result.0 c.of-chords.result fits c.grid_place-first.ensures c.extent-north.ensures.north c.of-chords.ensures.list in
-    let O = items_are ws first c.of-chords.result c.of-lengths.result c.placed.result.items c.placed.ensures c.of-chords.ensures.list c.of-lengths.ensures.list in
+    let A = first_is ws first c.extent-north.result.0 (chords_in c.of-chords.result) fits c.grid_place-first.ensures c.extent-north.ensures.north c.of-chords.ensures.list in
+    let O = items_are ws first (chords_in c.of-chords.result) (lengths_in c.of-lengths.result) (planned_in c.placed.result) c.placed.ensures c.of-chords.ensures.list c.of-lengths.ensures.list in
     record { sound = rw (c.rows.ensures.answer, c.of-lengths.ensures.list, O) (plan_sound ws c.args.mask.now.some first A) }
 
 pub returns : goal.returns
@@ -45,6 +47,6 @@ returns c =
     let ws = c.args.mask.now.rows in
     let first = c.grid_place-first.result in
     let fits : SFits w32 c.extent-north.result.0 = search rules in
-    let A = first_is ws first c.extent-north.result.0 c.of-chords.result fits c.grid_place-first.ensures c.extent-north.ensures.north c.of-chords.ensures.list in
-    let O = items_are ws first c.of-chords.result c.of-lengths.result c.placed.result.items c.placed.ensures c.of-chords.ensures.list c.of-lengths.ensures.list in
+    let A = first_is ws first c.extent-north.result.0 (chords_in c.of-chords.result) fits c.grid_place-first.ensures c.extent-north.ensures.north c.of-chords.ensures.list in
+    let O = items_are ws first (chords_in c.of-chords.result) (lengths_in c.of-lengths.result) (planned_in c.placed.result) c.placed.ensures c.of-chords.ensures.list c.of-lengths.ensures.list in
     mask_plan ws c.args.mask.now.some first A _ refl c.rows.ensures.answer c.of-lengths.ensures.list O

@@ -77,7 +77,7 @@ returns-clause-performed g c =
     let O = leaves k f g.H.Holder.sheet Open c.args.self.now c.open.new.self c.args.table.now c.open.new.table c.in_ok-opening.opening m c.in_ok-mask.ensures c.in_ok-opening.ensures in
     record {
       done = subst (λ v. MidBy k f level v (shown f s) s (g.H.Holder.sheet c.blend.new.first) t (g.G.Holder.sheet c.filter.new.holder) c.args.table.now c.filter.new.table (Ok r)) (sym (goes g c))
-          (ap (λ (n : ℕ). Ok n) sum, mid_sheet k f level (points_of m) s u v (g.H.Holder.sheet c.blend.new.first) (g.met.H.Holder.whole _) O (closing g c) c.blend.ensures, closing g c);
+          (ap (λ (n : ℕ). Ok n) sum, mid_sheet k f level (points_of m) s u v (g.H.Holder.sheet c.blend.new.first) c.size-size.ensures.whole O (closing g c) c.blend.ensures, closing g c);
       mask = mask_stays k f g.H.Holder.sheet Open c.args.self.now c.open.new.self c.args.table.now c.open.new.table c.in_ok-opening.opening m c.in_ok-mask.ensures c.in_ok-opening.ensures;
       table = search rules;
     }
@@ -95,4 +95,4 @@ returns-clause-between g c = λ m e.
     let same : n ≡ m = cc in
     let O = leaves k f g.H.Holder.sheet Open c.args.self.now c.open.new.self c.args.table.now c.open.new.table c.in_ok-opening.opening n c.in_ok-mask.ensures c.in_ok-opening.ensures in
     subst (λ m. Between k f (points_of m) (shown f s) (g.H.Holder.sheet c.blend.new.first)) same
-    (mid_between k f level (points_of n) s u v (g.H.Holder.sheet c.blend.new.first) (g.met.H.Holder.whole _) O (closing g c) c.blend.ensures)
+    (mid_between k f level (points_of n) s u v (g.H.Holder.sheet c.blend.new.first) c.size-size.ensures.whole O (closing g c) c.blend.ensures)
