@@ -8,21 +8,22 @@ use sheets::holder::Size;
 use std::alloc::Global;
 use std::str::FromStr;
 use texts::fault::{JobFault, Words};
-use texts::line::{Line, numbered};
+use texts::line::Line;
 use texts::mask::read_mask;
 use texts::part::Part;
 use texts::sheet::read_sheet;
+use texts::view::Lines;
 
 // The parts of a job, in their order.
-const SHEET: Part = Part::Heading("sheet");
+const SHEET: Part<'static> = Part::Heading("sheet");
 
-const MASK: Part = Part::Heading("mask");
+const MASK: Part<'static> = Part::Heading("mask");
 
-const FORE: Part = Part::Heading("fore");
+const FORE: Part<'static> = Part::Heading("fore");
 
-const BACK: Part = Part::Heading("back");
+const BACK: Part<'static> = Part::Heading("back");
 
-const LIST: Part = Part::Setting("list");
+const LIST: Part<'static> = Part::Setting("list");
 
 // The longest list of places.
 const MOST_PLACES: usize = 65_536;
@@ -54,8 +55,7 @@ pub struct Job {
 impl Job {
     // Reads the lines of a job. What stands before its sheet is passed over.
     pub fn read(alloc: Global, lines: &[String]) -> Result<Job, JobFault> {
-        let lines = numbered(alloc, lines)?;
-        let (_, _, rest) = SHEET.cut(lines.as_slice())?;
+        let (_, _, rest) = SHEET.cut(Lines::of(lines))?;
         let (sheet, _, rest) = MASK.cut(rest)?;
         let (mask, _, rest) = FORE.cut(rest)?;
         let (fore, _, rest) = BACK.cut(rest)?;

@@ -1,8 +1,10 @@
 // Jobs that are refused, each by its line.
+use crate::input_fault;
 use crate::job::{Job, WORDS};
 use std::alloc::{AllocError, Global};
 use std::test::Fail;
 use texts::fault::ToldJobFault;
+use texts::input::{InputFault, LinesFault};
 
 // What is wrong with a job.
 fn fault_of(heap: Global, text: &str) -> Result<String, AllocError> {
@@ -65,6 +67,29 @@ fn a_job_that_cannot_be_read_is_told_by_its_line(rt: HostRuntime) -> Result<(), 
     for (text, wanted) in table {
         let fault = fault_of(rt.alloc(), text)?;
         assert_eq!(rt; fault.as_str(), wanted);
+    }
+    Ok(())
+}
+
+// What kept the lines of the input from being listed.
+#[test]
+fn lines_that_are_not_listed_have_their_line(rt: HostRuntime) -> Result<(), Fail> {
+    let table = [
+        (
+            LinesFault::Reader(InputFault::Memory),
+            "the listing cannot be written",
+        ),
+        (LinesFault::Line(InputFault::Memory), "the job is no text"),
+        (LinesFault::Line(InputFault::NoText), "the job is no text"),
+        (LinesFault::List, "there is not enough memory"),
+    ];
+    for (kept, wanted) in table {
+        let told = ToldJobFault {
+            fault: input_fault(kept),
+            words: WORDS,
+        };
+        let line = told.to_string(rt.alloc())?;
+        assert_eq!(rt; line.as_str(), wanted);
     }
     Ok(())
 }

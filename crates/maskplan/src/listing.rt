@@ -7,7 +7,6 @@ use masks::lengths::LengthList;
 use masks::mask::Mask;
 use sheets::holder::Size;
 use std::io;
-use texts::fault::JobFault;
 
 // What is planned, and where to the plan is printed.
 #[derive(Clone, Copy)]
@@ -19,14 +18,14 @@ pub struct Listing<'a> {
 }
 
 impl Listing<'_> {
-    // Prints each step of the plan.
-    pub fn print(&self) -> Result<(), JobFault> {
+    // Prints each step of the plan. Want of memory for a row of the picture is told as a plan that cannot be written.
+    pub fn print(&self) -> io::Result<()> {
         println!(self.rt; "sheet {} by {}", self.size.width, self.size.height)?;
         self.print_points()?;
         self.print_picture()?;
         self.print_chords()?;
         self.print_lengths()?;
-        Ok(self.print_costs()?)
+        self.print_costs()
     }
 
     // The points as they were drawn.
@@ -39,7 +38,7 @@ impl Listing<'_> {
     }
 
     // The smallest rectangle that has every point and the origin.
-    fn print_picture(&self) -> Result<(), JobFault> {
+    fn print_picture(&self) -> io::Result<()> {
         let alloc = self.rt.alloc();
         let points = self.drawing.points();
         let (north, south) = ChordList::of(self.mask).extent();

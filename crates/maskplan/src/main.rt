@@ -15,7 +15,7 @@ use std::env;
 use std::process::ExitCode;
 use texts::ending::ended;
 use texts::fault::{JobFault, Words};
-use texts::input::{InputFault, input_lines};
+use texts::input::{InputFault, LinesFault, listed_lines};
 use texts::size::sized;
 
 // What the program's arguments are.
@@ -27,14 +27,15 @@ const WIDTH_RULE: &str = "the width is not a whole number from 1 to 2048";
 // What is told where the second is none.
 const HEIGHT_RULE: &str = "the height is not a whole number from 1 to 2048";
 
-// The words for what is wrong. A drawing alone has no parts and no cells.
+// The words for what is wrong. A drawing alone has no parts and no cells. A plan that cannot be written has the line of a
+// drawing that is no text.
 const WORDS: Words = Words {
     program: "maskplan",
     parts: None,
     cells: None,
     no_text: "the drawing is no text",
     unread: "the drawing is no text",
-    unwritten: "the plan cannot be written",
+    unwritten: "the drawing is no text",
 };
 
 fn main(rt: HostRuntime) -> ExitCode {
@@ -44,7 +45,7 @@ fn main(rt: HostRuntime) -> ExitCode {
 // Reads the size from the arguments and the drawing from standard input, and prints each step.
 fn run(rt: &HostRuntime) -> Result<(), JobFault> {
     let size = size(rt)?;
-    let lines = input_lines(rt)?;
+    let lines = listed_lines(rt).map_err(input_fault)?;
     let drawing = Drawing::read(rt.alloc(), lines.as_slice())?;
     let mask = mask_of(&drawing)?;
     let listing = Listing {
@@ -53,7 +54,7 @@ fn run(rt: &HostRuntime) -> Result<(), JobFault> {
         mask: &mask,
         size,
     };
-    listing.print()
+    Ok(listing.print()?)
 }
 
 // The two arguments, the sheet's width and height. Arguments that cannot be read are told as input is.
@@ -67,6 +68,15 @@ fn size(rt: &HostRuntime) -> Result<Size, JobFault> {
         width: number_of(width.as_str(), WIDTH_RULE)?,
         height: number_of(height.as_str(), HEIGHT_RULE)?,
     })?)
+}
+
+// What is told where the lines of the input cannot be listed. Want of memory for one of them, or for their reader, is told as
+// input that is no text.
+fn input_fault(fault: LinesFault) -> JobFault {
+    match fault {
+        LinesFault::Reader(_) | LinesFault::Line(_) => JobFault::Input(InputFault::Unread),
+        LinesFault::List => JobFault::Memory,
+    }
 }
 
 // The number that an argument is, where it is one.

@@ -1,11 +1,11 @@
 // The lines for arguments that are no size, and the words for what else is wrong.
-use crate::{HEIGHT_RULE, USAGE, WIDTH_RULE, WORDS, number_of};
+use crate::{HEIGHT_RULE, USAGE, WIDTH_RULE, WORDS, input_fault, number_of};
 use drawings::drawing::DrawingFault;
 use drawings::drawn::DrawnFault;
 use sheets::holder::Size;
 use std::test::Fail;
 use texts::fault::{JobFault, ToldJobFault};
-use texts::input::InputFault;
+use texts::input::{InputFault, LinesFault};
 use texts::size::sized;
 
 #[test]
@@ -50,7 +50,7 @@ fn each_fault_has_its_line(rt: HostRuntime) -> Result<(), Fail> {
             JobFault::Drawn(DrawnFault::Unread(DrawingFault::NoOrigin)),
             "the origin is not marked, @ where it is a point and o where it is not",
         ),
-        (JobFault::Unwritten, "the plan cannot be written"),
+        (JobFault::Unwritten, "the drawing is no text"),
         (JobFault::Memory, "there is not enough memory"),
     ];
     for (fault, wanted) in table {
@@ -74,5 +74,34 @@ fn each_fault_has_its_line(rt: HostRuntime) -> Result<(), Fail> {
         line.as_str(),
         "refused 9: the sheet is 2049 by 1; each goes from 1 to 2048"
     );
+    Ok(())
+}
+
+// What kept the lines of the input from being listed.
+#[test]
+fn lines_that_are_not_listed_have_their_line(rt: HostRuntime) -> Result<(), Fail> {
+    let table = [
+        (
+            LinesFault::Reader(InputFault::Memory),
+            "the drawing is no text",
+        ),
+        (
+            LinesFault::Line(InputFault::Memory),
+            "the drawing is no text",
+        ),
+        (
+            LinesFault::Line(InputFault::NoText),
+            "the drawing is no text",
+        ),
+        (LinesFault::List, "there is not enough memory"),
+    ];
+    for (kept, wanted) in table {
+        let told = ToldJobFault {
+            fault: input_fault(kept),
+            words: WORDS,
+        };
+        let line = told.to_string(rt.alloc())?;
+        assert_eq!(rt; line.as_str(), wanted);
+    }
     Ok(())
 }

@@ -13,19 +13,20 @@ use std::alloc::Global;
 use std::fmt;
 use std::str::FromStr;
 use texts::fault::{JobFault, Words};
-use texts::line::{Line, numbered};
+use texts::line::Line;
 use texts::mask::read_mask;
 use texts::part::Part;
 use texts::sheet::read_sheet;
+use texts::view::Lines;
 
 // The parts of a job, in their order.
-const SHEET: Part = Part::Heading("sheet");
+const SHEET: Part<'static> = Part::Heading("sheet");
 
-const MASK: Part = Part::Heading("mask");
+const MASK: Part<'static> = Part::Heading("mask");
 
-const THRESHOLD: Part = Part::Setting("threshold");
+const THRESHOLD: Part<'static> = Part::Setting("threshold");
 
-const CALLS: Part = Part::Heading("calls");
+const CALLS: Part<'static> = Part::Heading("calls");
 
 // What a line of the threshold and one of a call are.
 const THRESHOLD_RULE: &str = "a threshold is a whole number from 1 to 255";
@@ -75,8 +76,7 @@ impl Job {
 
     // Reads the lines of a job. What stands before its sheet is passed over.
     pub fn read(heap: Global, lines: &[String]) -> Result<Job, JobFault> {
-        let lines = numbered(heap, lines)?;
-        let (_, _, rest) = SHEET.cut(lines.as_slice())?;
+        let (_, _, rest) = SHEET.cut(Lines::of(lines))?;
         let (sheet, _, rest) = MASK.cut(rest)?;
         let (mask, threshold, rest) = THRESHOLD.cut(rest)?;
         let (_, _, calls) = CALLS.cut(rest)?;
@@ -126,11 +126,11 @@ fn read_threshold(line: Line) -> Result<Threshold, JobFault>
     }
 }
 
-// The calls, each in a line of its own.
-fn read_calls(heap: Global, lines: &[Line]) -> Result<Vec<Pass>, JobFault> {
-    lines
-        .iter()
-        .filter_map(|line| read_call(*line).transpose())
+// The calls, each in a line of its own. Lines are a view of their texts, so they are asked by number.
+fn read_calls(heap: Global, lines: Lines) -> Result<Vec<Pass>, JobFault> {
+    (0..lines.len())
+        .filter_map(|i| lines.get(i))
+        .filter_map(|line| read_call(line).transpose())
         .try_collect(heap)
 }
 

@@ -20,7 +20,7 @@ pub enum JobFault {
     // The program's arguments are not what it takes, as these words say.
     Arguments(&'static str),
     // No line begins a part.
-    Missing(Missing),
+    Missing(Missing<'static>),
     // The sheet cannot be taken in.
     Sheet(SheetFault),
     // A drawing draws no mask.
@@ -59,10 +59,10 @@ pub struct ToldJobFault {
     pub words: Words,
 }
 
-impl From<Missing> for JobFault {
+impl From<Missing<'static>> for JobFault {
     ghost from_gives = { λ f r. r ≡ MissingPart f };
 
-    fn from(fault: Missing) -> JobFault {
+    fn from(fault: Missing<'static>) -> JobFault {
         JobFault::Missing(fault)
     }
 }

@@ -4,7 +4,10 @@
 // The lines of the input.
 pub mod input;
 
-// The lines of a job, each with its number.
+// Lines of a job that follow each other.
+pub mod view;
+
+// A line of a job.
 pub mod line;
 
 // The parts of a job, each begun by a line.

@@ -1,8 +1,9 @@
-// The lines of a job, each with its number.
+// A line of a job.
 ghost use Rattle.std.specs.Prelude.{◌≡◌, map, IfOk, string_bytes};
-ghost use Rattle.texts.specs.Lines.{told, numbered_from, lines_before, drawn_from};
+ghost use Rattle.texts.specs.Lines.{shown, drawn_from};
 ghost use Rattle.texts.specs.Settings.{IsAlone};
 
+use crate::view::Lines;
 use std::alloc::{AllocError, Global};
 use std::str::FromStr;
 
@@ -13,41 +14,19 @@ pub struct Line<'a> {
     pub text: &'a str,
 }
 
-// The lines of a job.
-pub fn numbered<'a>(alloc: Global, lines: &'a [String]) -> Result<Vec<Line<'a>>, AllocError>
-    ensures { IfOk result (λ v. map told v.items ≡ numbered_from 1 (map string_bytes lines.now)) }
-{
-    let mut numbered = Vec::new(alloc);
-    for (i, line) in lines.iter().enumerate() {
-        numbered.push(Line {
-            number: i + 1,
-            text: line.as_str(),
-        })?;
-    }
-    Ok(numbered)
-}
-
 // The lines, with a blank one for each line before them, so that what is drawn in them is told by the lines of the job.
-pub fn drawn_lines(alloc: Global, lines: &[Line]) -> Result<Vec<String>, AllocError>
-    ensures { IfOk result (λ v. map string_bytes v.items ≡ drawn_from lines.now) }
+pub fn drawn_lines(alloc: Global, lines: Lines) -> Result<Vec<String>, AllocError>
+    ensures { IfOk result (λ v. map string_bytes v.items ≡ drawn_from (shown lines.entry)) }
 {
     let mut drawn = Vec::new(alloc);
-    for _before in 0..lines_before(lines) {
+    for _before in 0..lines.before() {
         drawn.push(String::new(alloc))?;
     }
-    for line in lines {
-        drawn.push(String::from_str(alloc, line.text)?)?;
+    // By number, since lines are a view of their texts.
+    for i in 0..lines.len() {
+        drawn.push(String::from_str(alloc, lines.at(i).text)?)?;
     }
     Ok(drawn)
-}
-
-// How many lines of the job stand before these.
-fn lines_before(lines: &[Line]) -> usize
-    ensures { result ≡ lines_before lines.now }
-{
-    lines
-        .first()
-        .map_or(0, |line| line.number.saturating_sub(1))
 }
 
 impl Line<'_> {

@@ -1,27 +1,29 @@
 // The parts of a job, each begun by a line.
 ghost use Rattle.std.specs.Prelude.{◌≡◌, MatchOption, MatchResult, Some};
-ghost use Rattle.texts.specs.Parts.{word_of, missing_text, Begins, Lacks, IsFirst, Cuts};
+ghost use Rattle.texts.specs.Lines.{told, shown};
+ghost use Rattle.texts.specs.Parts.{word_of, missing_text, Begins, Lacks, LacksText, IsFirst, Cuts};
 
 use crate::line::Line;
+use crate::view::Lines;
 use std::fmt;
 
 // A part of a job, by the word that begins it.
 #[derive(Clone, Copy, PartialEq, Eq, Debug)]
-pub enum Part {
+pub enum Part<'w> {
     // A line has the word alone, and the part lies behind it.
-    Heading(&'static str),
+    Heading(&'w str),
     // A line has the word, and the part's value behind it.
-    Setting(&'static str),
+    Setting(&'w str),
 }
 
 // No line begins the part, after those of the parts before it.
 #[derive(Clone, Copy, PartialEq, Eq, Debug)]
-pub struct Missing(pub Part);
+pub struct Missing<'w>(pub Part<'w>);
 
-impl Part {
+impl<'w> Part<'w> {
     // The word that begins the part.
-    pub fn word(self) -> &'static str
-        ensures { result.now ≡ word_of self }
+    pub fn word(self) -> &'w str
+        ensures { result.now ≡ word_of self.entry }
     {
         match self {
             Part::Heading(word) | Part::Setting(word) => word,
@@ -30,37 +32,45 @@ impl Part {
 
     // Whether the line begins the part.
     pub fn begins(self, line: &str) -> bool
-        ensures { Begins self line.now result }
+        ensures { Begins self.entry line.now result }
     {
         let mut words = line.split_whitespace();
-        let first = words.next();
-        let second = words.next();
         match self {
-            Part::Heading(word) => first == Some(word) && second.is_none(),
-            Part::Setting(word) => first == Some(word),
+            Part::Heading(word) => words.next() == Some(word) && words.next().is_none(),
+            Part::Setting(word) => words.next() == Some(word),
         }
     }
 
     // The lines before the first that begins the part, that line, and those behind it.
-    pub fn cut<'a, 'b>(
-        self,
-        lines: &'b [Line<'a>],
-    ) -> Result<(&'b [Line<'a>], Line<'a>, &'b [Line<'a>]), Missing>
-        ensures { MatchResult result (λ p. Cuts self lines.now p.0.now p.1 p.2.now) (λ e. (e ≡ record { 0 = self }) × Lacks self lines.now) }
+    pub fn cut<'a>(self, lines: Lines<'a>) -> Result<(Lines<'a>, Line<'a>, Lines<'a>), Missing<'w>>
+        ensures { MatchResult result (λ p. Cuts self.entry (shown lines.entry) (shown p.0) (told p.1) (shown p.2)) (λ e. (e ≡ record { 0 = self.entry }) × Lacks self.entry (shown lines.entry)) }
     {
-        let at = self.place(lines).ok_or(Missing(self))?;
-        Ok((&lines[..at], lines[at], &lines[at + 1..]))
+        let texts = lines.texts;
+        let at = self.place(texts).ok_or(Missing(self))?;
+        let before = Lines {
+            first: lines.first,
+            texts: &texts[..at],
+        };
+        let line = Line {
+            number: lines.first + at,
+            text: texts[at].as_str(),
+        };
+        let behind = Lines {
+            first: lines.first + at + 1,
+            texts: &texts[at + 1..],
+        };
+        Ok((before, line, behind))
     }
 
     // The place of the first line that begins the part.
-    fn place(self, lines: &[Line]) -> Option<usize>
-        ensures { MatchOption result (Lacks self lines.now) (IsFirst self lines.now) }
+    fn place(self, texts: &[String]) -> Option<usize>
+        ensures { MatchOption result (LacksText self.entry texts.now) (IsFirst self.entry texts.now) }
     {
-        lines.iter().position(|line| self.begins(line.text))
+        texts.iter().position(|text| self.begins(text.as_str()))
     }
 }
 
-impl fmt::Display for Missing {
+impl fmt::Display for Missing<'_> {
     ghost output = { λ m. Some (missing_text m) };
 
     fn fmt<W: fmt::Write>(&self, f: &mut fmt::Formatter<W>) -> fmt::Result {

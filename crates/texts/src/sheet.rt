@@ -1,12 +1,14 @@
 // The sheet of a job.
 ghost use Rattle.std.specs.Prelude.{◌≡◌, ◌≤◌, ◌<◌, ◌^◌, IfOk, IfErr, Some, None};
 ghost use Rattle.texts.specs.Faults.{sheet_text};
+ghost use Rattle.texts.specs.Lines.{told, shown};
 ghost use Rattle.texts.specs.Sheets.{IsRow, RowFault, agrees, grown, none, Grid, GridFault, SheetRead};
 
 use crate::line::Line;
 use crate::size::{WrongSize, sized};
+use crate::view::Lines;
 use sheets::holder::Size;
-use std::alloc::{AllocFailed, Global};
+use std::alloc::{AllocError, AllocFailed, Global};
 use std::fmt;
 use std::str::FromStr;
 
@@ -50,6 +52,16 @@ impl From<WrongSize> for SheetFault {
 }
 
 // `?` converts but once, so that each fault takes in want of memory by itself.
+impl From<AllocError> for SheetFault {
+    ghost use Rattle.texts.specs.declared.sheet.SheetFault.TheVariants.{Memory};
+
+    ghost from_gives = { λ _ r. r ≡ Memory };
+
+    fn from(_e: AllocError) -> SheetFault {
+        SheetFault::Memory
+    }
+}
+
 impl<T: Drop> From<AllocFailed<T>> for SheetFault {
     ghost use Rattle.texts.specs.declared.sheet.SheetFault.TheVariants.{Memory};
 
@@ -63,29 +75,32 @@ impl<T: Drop> From<AllocFailed<T>> for SheetFault {
 // Takes in a sheet: its size, within what the filters take, and its numbers row by row.
 pub fn read_sheet<T: FromStr + Drop>(
     alloc: Global,
-    lines: &[Line],
+    lines: Lines,
 ) -> Result<(Size, Vec<T>), SheetFault>
 where
     T::Err: Drop,
     ensures width { IfOk result (λ p. (1 ≤ p.0.width) × (p.0.width ≤ 2048)) }
     ensures height { IfOk result (λ p. (1 ≤ p.0.height) × (p.0.height ≤ 2048)) }
-    ensures read { SheetRead T.FromStr.from_str_gives lines.now result }
+    ensures read { SheetRead T.FromStr.from_str_gives (shown lines.entry) result }
 {
     let mut cells = Vec::new(alloc);
     let size = sized(read_rows(lines, &mut cells)?)?;
     Ok((size, cells))
 }
 
-// Takes in the rows of a sheet and answers its size. A blank line is no row.
-fn read_rows<T: FromStr + Drop>(lines: &[Line], cells: &mut Vec<T>) -> Result<Size, SheetFault>
+// Takes in the rows of a sheet, behind the cells that are there, and answers its size, which is 0 by 0 where there is no row.
+// A blank line is no row.
+pub fn read_rows<T: FromStr + Drop>(lines: Lines, cells: &mut Vec<T>) -> Result<Size, SheetFault>
 where
     T::Err: Drop,
-    ensures rows { IfOk result (λ s. Grid T.FromStr.from_str_gives lines.now none cells.old.items s cells.new.items) }
-    ensures fault { IfErr result (λ e. GridFault T.FromStr.from_str_gives lines.now none cells.old.items e) }
+    ensures rows { IfOk result (λ s. Grid T.FromStr.from_str_gives (shown lines.entry) none cells.old.items s cells.new.items) }
+    ensures fault { IfErr result (λ e. GridFault T.FromStr.from_str_gives (shown lines.entry) none cells.old.items e) }
 {
     let mut size = Size::NONE;
-    for line in lines {
-        let width = read_row(*line, cells)?;
+    // By number: lines are a view of their texts, and no list of them is kept.
+    for i in 0..lines.len() {
+        let line = lines.at(i);
+        let width = read_row(line, cells)?;
         if !agrees(width, size) {
             return Err(SheetFault::UnlikeRow(line.number));
         }
@@ -121,7 +136,7 @@ fn read_row<T: FromStr + Drop>(line: Line, cells: &mut Vec<T>) -> Result<usize, 
 where
     T::Err: Drop,
     ensures row { IfOk result (λ n. IsRow T.FromStr.from_str_gives line.entry.text.now n cells.old.items cells.new.items) }
-    ensures fault { IfErr result (RowFault T.FromStr.from_str_gives line.entry) }
+    ensures fault { IfErr result (RowFault T.FromStr.from_str_gives (told line.entry)) }
 {
     let before = cells.len();
     for word in line.text.split_whitespace() {

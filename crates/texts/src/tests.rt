@@ -4,13 +4,14 @@ use crate::fault::{JobFault, ToldJobFault, Words};
 use crate::input::InputFault;
 use crate::line::Line;
 use crate::part::{Missing, Part};
-use crate::sheet::SheetFault;
+use crate::sheet::{SheetFault, read_rows};
 use crate::size::WrongSize;
+use crate::view::Lines;
 use drawings::drawing::{DrawingFault, Place};
 use drawings::drawn::DrawnFault;
 use masks::fault::MaskFault;
 use sheets::holder::Size;
-use std::alloc::Global;
+use std::alloc::{AllocError, Global};
 use std::cell::RefCell;
 use std::fmt::Write;
 use std::test::Fail;
@@ -206,6 +207,51 @@ fn a_setting_has_one_value(rt: HostRuntime) {
         let line = Line { number: 1, text };
         assert_eq!(rt; line.value::<usize>(), wanted);
     }
+}
+
+// The lines of a text.
+fn lines_of(heap: Global, text: &str) -> Result<Vec<String>, AllocError> {
+    text.lines()
+        .map(|line| String::from_str(heap, line))
+        .try_collect(heap)
+}
+
+// Rows are read behind the cells that are there, blank lines are passed over, and no row is no fault.
+#[test]
+fn rows_are_read_behind_what_is_there(rt: HostRuntime) -> Result<(), Fail> {
+    let texts = lines_of(rt.alloc(), "7 8\n\n-9 10\n")?;
+    let mut cells: Vec<i32> = Vec::new(rt.alloc());
+    cells.push(1)?;
+    let size = read_rows(Lines::of(texts.as_slice()), &mut cells);
+    let two = Size {
+        width: 2,
+        height: 2,
+    };
+    assert_eq!(rt; size, Ok(two));
+    assert_eq!(rt; cells.as_slice(), [1, 7, 8, -9, 10].as_slice());
+    let none = read_rows(Lines::of(&[]), &mut cells);
+    assert_eq!(rt; none, Ok(Size::NONE));
+    assert_eq!(rt; cells.len(), 5);
+    Ok(())
+}
+
+// A part may have any word, and the lines around it keep their numbers.
+#[test]
+fn lines_around_a_part_keep_their_numbers(rt: HostRuntime) -> Result<(), Fail> {
+    let texts = lines_of(rt.alloc(), "a b\n  a\nc\n")?;
+    let word = String::from_str(rt.alloc(), "a")?;
+    let part = Part::Heading(word.as_str());
+    let lines = Lines::of(texts.as_slice());
+    let Ok((before, line, behind)) = part.cut(lines) else {
+        assert!(rt; false);
+        return Ok(());
+    };
+    assert_eq!(rt; (before.len(), line.number, behind.len()), (1, 2, 1));
+    assert_eq!(rt; behind.get(0).map(|l| (l.number, l.text)), Some((3, "c")));
+    assert!(rt; behind.get(1).is_none());
+    let missing = part.cut(behind).map(|_| ());
+    assert_eq!(rt; missing, Err(Missing(part)));
+    Ok(())
 }
 
 // Keeps what is printed on standard error.

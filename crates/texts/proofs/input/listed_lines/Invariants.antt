@@ -1,6 +1,6 @@
 use Rattle.std.proofs.Common.{All}
 use Rattle.texts.specs.Inputs.{LacksFeed}
-use Rattle.texts.proofs.input.lines_of.Given as goal
+use Rattle.texts.proofs.input.listed_lines.Given as goal
 
 -- the lines so far
 abbrev pub invariant-loop-line : goal.invariant-loop-line
