@@ -6,12 +6,11 @@ use masks::cost;
 use masks::mask::Mask;
 use morphology::call::Answer;
 use morphology::place::Place;
-use sheets::holder::{Holder, Size};
 use sheets::rows::Rows;
 use std::alloc::AllocError;
-use std::{fmt, io};
+use std::io;
 use texts::fault::JobFault;
-use texts::told::{ToldAnswer, ToldRefusal};
+use texts::told::{ToldAnswer, ToldRefusal, ToldRows};
 use worksheets::worksheet::Worksheet;
 
 // What is run and listed, and where to.
@@ -19,27 +18,6 @@ use worksheets::worksheet::Worksheet;
 pub struct Listing<'a> {
     pub rt: &'a HostRuntime,
     pub job: &'a Job,
-}
-
-// The rows of the heights that a holder shows, the northmost first.
-#[derive(Clone, Copy)]
-struct HeldRows<'a, H>(&'a H);
-
-impl<H: Holder<Cell = Height>> fmt::Display for HeldRows<'_, H> {
-    fn fmt<W: fmt::Write>(&self, f: &mut fmt::Formatter<W>) -> fmt::Result {
-        let Size { width, height } = self.0.size();
-        // By number: what a holder shows is no list.
-        for y in 0..height {
-            write!(f, " ")?;
-            for x in 0..width {
-                if let Some(Height(number)) = self.0.cell(x, y) {
-                    write!(f, " {number}")?;
-                }
-            }
-            writeln!(f)?;
-        }
-        Ok(())
-    }
 }
 
 impl Listing<'_> {
@@ -67,9 +45,15 @@ impl Listing<'_> {
             self.job.mask.count(),
             ToldAnswer(answer)
         )?;
-        self.rt.print(HeldRows(sheet.holder()))?;
+        self.rt.print(ToldRows {
+            width,
+            cells: cells.as_slice(),
+        })?;
         println!(self.rt; "the closing")?;
-        self.rt.print(HeldRows(&second))?;
+        self.rt.print(ToldRows {
+            width,
+            cells: closed.as_slice(),
+        })?;
         Ok(())
     }
 
