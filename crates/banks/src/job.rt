@@ -9,9 +9,9 @@ use std::alloc::Global;
 use std::str::FromStr;
 use texts::fault::{JobFault, Words};
 use texts::line::Line;
-use texts::mask::read_mask;
+use texts::mask::read_mask_in;
 use texts::part::Part;
-use texts::sheet::read_sheet;
+use texts::sheet::read_sheet_in;
 use texts::view::Lines;
 
 // The parts of a job, in their order.
@@ -55,18 +55,18 @@ pub struct Job {
 impl Job {
     // Reads the lines of a job. What stands before its sheet is passed over.
     pub fn read(alloc: Global, lines: &[String]) -> Result<Job, JobFault> {
-        let (_, _, rest) = SHEET.cut(Lines::of(lines))?;
-        let (sheet, _, rest) = MASK.cut(rest)?;
-        let (mask, _, rest) = FORE.cut(rest)?;
-        let (fore, _, rest) = BACK.cut(rest)?;
-        let (back, list, _) = LIST.cut(rest)?;
-        let (size, numbers) = read_sheet::<i32>(alloc, sheet)?;
+        let (_, _, rest) = SHEET.cut_in(Lines::of(lines))?;
+        let (sheet, _, rest) = MASK.cut_in(rest)?;
+        let (mask, _, rest) = FORE.cut_in(rest)?;
+        let (fore, _, rest) = BACK.cut_in(rest)?;
+        let (back, list, _) = LIST.cut_in(rest)?;
+        let (size, numbers) = read_sheet_in::<i32>(alloc, sheet)?;
         Ok(Job {
             size,
             cells: numbers.iter().map(|n| Height(*n)).collect(alloc)?,
-            mask: read_mask(alloc, mask)?,
-            fore: read_mask(alloc, fore)?,
-            back: read_mask(alloc, back)?,
+            mask: read_mask_in(alloc, mask)?,
+            fore: read_mask_in(alloc, fore)?,
+            back: read_mask_in(alloc, back)?,
             places: read_list(list)?,
         })
     }

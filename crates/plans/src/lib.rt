@@ -9,3 +9,5 @@ pub mod planned;
 
 // The plan itself: rows, lengths and chords, counted from the corner of a chord table.
 pub mod plan;
+#[cfg(test)]
+mod tests;

@@ -1,5 +1,5 @@
 // The chords of a plan.
-ghost use Rattle.std.specs.Prelude.{◌≡◌, ◌+◌, ◌<◌, ◌≤◌, ◌++◌, [], ◌∷◌, length};
+ghost use Rattle.std.specs.Prelude.{◌≡◌, ◌+◌, ◌<◌, ◌≤◌, ◌++◌, [], ◌∷◌, length, MatchOption};
 
 use crate::placed::PlannedChord;
 
@@ -13,6 +13,20 @@ pub struct PlannedChords {
 
 impl PlannedChords {
     ghost use Rattle.plans.specs.Shown.{planned_in};
+
+    // These chords, where there is room for them: 496.
+    pub fn of(chords: &[PlannedChord]) -> Option<PlannedChords>
+        ensures { MatchOption result (496 < length chords.now) (λ l. planned_in l ≡ chords.now) }
+    {
+        if chords.len() > 496 {
+            return None;
+        }
+        let mut list = PlannedChords::new();
+        for c in chords {
+            list.push(*c);
+        }
+        Some(list)
+    }
 
     // No chords.
     pub(crate) fn new() -> PlannedChords

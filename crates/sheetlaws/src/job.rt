@@ -14,9 +14,9 @@ use std::fmt;
 use std::str::FromStr;
 use texts::fault::{JobFault, Words};
 use texts::line::Line;
-use texts::mask::read_mask;
+use texts::mask::read_mask_in;
 use texts::part::Part;
-use texts::sheet::read_sheet;
+use texts::sheet::read_sheet_in;
 use texts::view::Lines;
 
 // The parts of a job, in their order.
@@ -76,15 +76,15 @@ impl Job {
 
     // Reads the lines of a job. What stands before its sheet is passed over.
     pub fn read(heap: Global, lines: &[String]) -> Result<Job, JobFault> {
-        let (_, _, rest) = SHEET.cut(Lines::of(lines))?;
-        let (sheet, _, rest) = MASK.cut(rest)?;
-        let (mask, threshold, rest) = THRESHOLD.cut(rest)?;
-        let (_, _, calls) = CALLS.cut(rest)?;
-        let (size, levels) = read_sheet::<u8>(heap, sheet)?;
+        let (_, _, rest) = SHEET.cut_in(Lines::of(lines))?;
+        let (sheet, _, rest) = MASK.cut_in(rest)?;
+        let (mask, threshold, rest) = THRESHOLD.cut_in(rest)?;
+        let (_, _, calls) = CALLS.cut_in(rest)?;
+        let (size, levels) = read_sheet_in::<u8>(heap, sheet)?;
         Ok(Job {
             size,
             cells: levels.iter().map(|level| Gray(*level)).collect(heap)?,
-            mask: read_mask(heap, mask)?,
+            mask: read_mask_in(heap, mask)?,
             threshold: read_threshold(threshold)?,
             passes: read_calls(heap, calls)?,
         })

@@ -1,5 +1,4 @@
 pub mod Equal
-mod Wholes
 mod Laid
 mod WholeRows
 mod Parts

@@ -4,7 +4,7 @@ use Rattle.std.proofs.lemmas.Bool.Decides.{nat_tests}
 use Rattle.sheets.specs.Sheet.{Sheet, put_at}
 use Rattle.sheets.specs.declared.window.Rectangle.{Rectangle}
 use Rattle.sheets.specs.Part.{overlap, unless_none, part, common}
-use Rattle.sheets.proofs.Wholes.{in_overlap}
+use Rattle.sheets.specs.Wholes.{in_overlap}
 use Rattle.sheets.proofs.Equal.{same_sheet}
 
 -- a put below a place of the part is a put on the part

@@ -9,3 +9,4 @@ pub mod TilePlaces
 pub mod SouthUp
 pub mod Part
 pub mod Copied
+pub mod Wholes

@@ -2,9 +2,11 @@
 use Rattle.std.proofs.Common.{◌≡◌, ℕ, zero, suc, ◌+◌, ◌-◌, ◌<◌, List, [], ◌∷◌, ◌++◌, false, map, length, take, drop, get_or, sym, ap, ◌∙◌, subst, arith, String, string_bytes}
 use Rattle.std.specs.List.{AllWithin}
 use Rattle.std.specs.declared.alloc.Global.{Global}
-use Rattle.std.proofs.lemmas.List.{take_all, take-append-drop, get_or-take, length-take, length-drop}
+use Rattle.std.proofs.lemmas.List.{take_all, take-append-drop, drop_more, get_or-take, length-take, length-drop}
 use Rattle.texts.specs.Lines.{numbered_from}
-use Rattle.texts.specs.Parts.{Begins, Lacks, LacksText, IsFirst, Cuts}
+use Rattle.texts.specs.Parts.{Begins, IsFirst, Cuts, IsBegunBy, LacksText}
+use Rattle.texts.specs.Views.{LacksIn, CutsIn, IsFirstText}
+use Rattle.texts.specs.declared.line.Line.{Line}
 use Rattle.texts.specs.declared.part.Part.{Part}
 use Rattle.texts.proofs.Views.{shown_drop, shown_take, shown_long}
 
@@ -14,6 +16,19 @@ module _ {X : Type 0} (P : X → Type 0) (xs : List X) (i : ℕ) where
       let n = length-take i xs in
       let lower : k < i = omega (arith, short, n, inside) in
       subst P (sym (get_or-take i xs k d lower)) (below k d low lower)
+
+module _ (p : Part) (ls : List Line) (i : ℕ) (d : Line) where
+  pub cuts_at : IsFirst p ls i →
+      Cuts p ls (take i ls) (get_or ls i d) (take (length ls - (i + 1)) (drop (i + 1) ls))
+  cuts_at found =
+      let behind = drop (i + 1) ls in
+      let all : take (length ls - (i + 1)) behind ≡ behind =
+      take_all (length ls - (i + 1)) behind (let n = length-drop (i + 1) ls in omega (arith, n)) in
+      record {
+        whole = sym (take-append-drop i ls) ∙ ap (λ xs. take i ls ++ xs) (drop_more ls i d found.0 ∙ ap (λ xs. get_or ls i d ∷ xs) (sym all));
+        begun = found.1 d;
+        first = within_before (λ l. Begins p l.text.now false) ls i found.0 found.2;
+      }
 
 -- what holds of each text holds of each line
 module _ (P : List ℕ → Type 0) where
@@ -32,8 +47,8 @@ module _ (P : List ℕ → Type 0) where
       let less : k < length ts = omega (arith, short, long) in
       text_at n ts k d less all
 
-pub lacks : (p : Part) (n : ℕ) (ts : List (String Global)) → LacksText p ts → Lacks p (numbered_from n (map string_bytes ts))
-lacks p n ts none = all_texts (λ t. Begins p t false) n ts none
+pub lacks_in : (p : Part) (n : ℕ) (ts : List (String Global)) → LacksText p ts → LacksIn p (numbered_from n (map string_bytes ts))
+lacks_in p n ts none = all_texts (λ t. IsBegunBy p t false) n ts none
 
 module _ (p : Part) (n : ℕ) (ts : List (String Global)) (i : ℕ) (d : String Global) where
   abbrev before : List (ℕ × List ℕ)
@@ -42,8 +57,8 @@ module _ (p : Part) (n : ℕ) (ts : List (String Global)) (i : ℕ) (d : String 
   abbrev behind : List (ℕ × List ℕ)
   behind = numbered_from (n + i + 1) (map string_bytes (take (length ts - (i + 1)) (drop (i + 1) ts)))
 
-  cuts_there : IsFirst p ts i → Cuts p (numbered_from n (map string_bytes ts)) before (n + i, string_bytes (get_or ts i d)) behind
-  cuts_there found =
+  cuts_in_there : IsFirstText p ts i → CutsIn p (numbered_from n (map string_bytes ts)) before (n + i, string_bytes (get_or ts i d)) behind
+  cuts_in_there found =
       let rest = drop (i + 1) ts in
       let all : take (length ts - (i + 1)) rest ≡ rest =
       take_all (length ts - (i + 1)) rest (let m = length-drop (i + 1) ts in omega (arith, m)) in
@@ -53,8 +68,8 @@ module _ (p : Part) (n : ℕ) (ts : List (String Global)) (i : ℕ) (d : String 
             ∙ ap (λ xs. take i ls ++ xs) (shown_drop n ts i d found.0 ∙ ap (λ ss. (n + i, string_bytes (get_or ts i d)) ∷ numbered_from (n + i + 1) (map string_bytes ss)) (sym all))
             ∙ ap (λ xs. xs ++ (n + i, string_bytes (get_or ts i d)) ∷ behind) (shown_take n ts i);
         begun = found.1 d;
-        first = lacks p n (take i ts) (within_before (λ t. Begins p (string_bytes t) false) ts i found.0 found.2);
+        first = lacks_in p n (take i ts) (within_before (λ t. IsBegunBy p (string_bytes t) false) ts i found.0 found.2);
       }
 
-  pub cuts_at : (t : List ℕ) → t ≡ string_bytes (get_or ts i d) → IsFirst p ts i → Cuts p (numbered_from n (map string_bytes ts)) before (n + i, t) behind
-  cuts_at t is found = subst (λ (s : List ℕ). Cuts p (numbered_from n (map string_bytes ts)) before (n + i, s) behind) (sym is) (cuts_there found)
+  pub cuts_in_at : (t : List ℕ) → t ≡ string_bytes (get_or ts i d) → IsFirstText p ts i → CutsIn p (numbered_from n (map string_bytes ts)) before (n + i, t) behind
+  cuts_in_at t is found = subst (λ (s : List ℕ). CutsIn p (numbered_from n (map string_bytes ts)) before (n + i, s) behind) (sym is) (cuts_in_there found)

@@ -2,7 +2,8 @@
 use Rattle.std.proofs.Common.{◌≡◌, ℕ, zero, suc, ◌+◌, ◌-◌, ◌<◌, List, [], ◌∷◌, min, map, length, take, drop, get_or, refl, sym, ap, ◌∙◌, arith, String, string_bytes}
 use Rattle.std.proofs.lemmas.List.{length-map, length-drop, take_all, drop_more, drop-map, take-map, take_min, drop_min}
 use Rattle.std.specs.declared.alloc.Global.{Global}
-use Rattle.texts.specs.Lines.{numbered_from, lines_before}
+use Rattle.texts.specs.Lines.{numbered_from}
+use Rattle.texts.specs.Views.{before_in}
 
 numbered_long : (n : ℕ) (ts : List (List ℕ)) → length (numbered_from n ts) ≡ length ts
 numbered_long n [] = refl
@@ -67,6 +68,6 @@ module _ (n : ℕ) (ts : List (String Global)) where
       let long : k ≡ min i (length rows) = is ∙ ap (min i) (sym shown_long) in
       shown_rest k ∙ ap (λ j. drop j rows) long ∙ drop_min i rows
 
-pub shown_before : (n : ℕ) (ts : List (String Global)) → 0 < length ts → n - 1 ≡ lines_before (numbered_from n (map string_bytes ts))
+pub shown_before : (n : ℕ) (ts : List (String Global)) → 0 < length ts → n - 1 ≡ before_in (numbered_from n (map string_bytes ts))
 shown_before n [] some = absurd (omega (arith, some))
 shown_before n (t ∷ ts) some = refl

@@ -6,4 +6,5 @@ pub mod Masks
 pub mod Parts
 pub mod Told
 pub mod Sheets
+pub mod Views
 pub mod Faults

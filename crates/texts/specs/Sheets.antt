@@ -16,6 +16,7 @@ use Rattle.std.specs.Str.Iter.{split_whitespace_rest, split_whitespace_steps}
 use Rattle.std.specs.declared.str.SplitWhitespace.{SplitWhitespace}
 use Rattle.sheets.specs.declared.holder.Size.{Size}
 use Rattle.morphology.specs.Refusals.{fits}
+use Rattle.texts.specs.declared.line.Line.{Line}
 use Rattle.texts.specs.declared.sheet.SheetFault.{SheetFault}
 use Rattle.texts.specs.declared.sheet.SheetFault.TheVariants.{NoCell, UnlikeRow, WrongSize, Memory}
 
@@ -35,8 +36,8 @@ abbrev pub HasOther : {T E : Type 0} → (List ℕ → Result T E → Type 0) �
 HasOther {T} {E} f bs = (s u : SplitWhitespace) × (ws : List (Bor (List ℕ))) × (cs : List T) × (x : Bor (List ℕ)) × (e : E) × (split_whitespace_rest s ≡ bs)
     × YieldsThen split_whitespace_steps s ws (Some x) u × ReadAll f ws cs × f x.now (Err e)
 
-abbrev pub RowFault : {T E : Type 0} → (List ℕ → Result T E → Type 0) → ℕ × List ℕ → SheetFault → Type 0
-RowFault f l e = (e ≡ Memory) ⊎ ((e ≡ NoCell l.0) × HasOther f l.1)
+abbrev pub RowFault : {T E : Type 0} → (List ℕ → Result T E → Type 0) → Line → SheetFault → Type 0
+RowFault f l e = (e ≡ Memory) ⊎ ((e ≡ NoCell l.number) × HasOther f l.text.now)
 
 -- a line without cells is no row; the others have as many as the first
 abbrev pub agrees : ℕ → Size → Bool
@@ -46,15 +47,15 @@ abbrev pub grown : ℕ → Size → Size
 grown n s = cond (n == 0) s (record { width = n; height = s.height + 1 })
 
 -- line by line, the northmost row first
-abbrev pub Grid : {T E : Type 0} → (List ℕ → Result T E → Type 0) → List (ℕ × List ℕ) → Size → List T → Size → List T → Type 0
+abbrev pub Grid : {T E : Type 0} → (List ℕ → Result T E → Type 0) → List Line → Size → List T → Size → List T → Type 0
 Grid f [] s xs t ys = (s ≡ t) × (xs ≡ ys)
-Grid {T} {E} f (l ∷ ls) s xs t ys = (n : ℕ) × (zs : List T) × IsRow f l.1 n xs zs × (agrees n s ≡ true) × Grid f ls (grown n s) zs t ys
+Grid {T} {E} f (l ∷ ls) s xs t ys = (n : ℕ) × (zs : List T) × IsRow f l.text.now n xs zs × (agrees n s ≡ true) × Grid f ls (grown n s) zs t ys
 
 -- of the first line that is no row, or no row of this sheet
-abbrev pub GridFault : {T E : Type 0} → (List ℕ → Result T E → Type 0) → List (ℕ × List ℕ) → Size → List T → SheetFault → Type 0
+abbrev pub GridFault : {T E : Type 0} → (List ℕ → Result T E → Type 0) → List Line → Size → List T → SheetFault → Type 0
 GridFault f [] s xs e = ⊥
 GridFault {T} {E} f (l ∷ ls) s xs e = RowFault f l e
-    ⊎ ((n : ℕ) × (zs : List T) × IsRow f l.1 n xs zs × (((agrees n s ≡ false) × (e ≡ UnlikeRow l.0)) ⊎ ((agrees n s ≡ true) × GridFault f ls (grown n s) zs e)))
+    ⊎ ((n : ℕ) × (zs : List T) × IsRow f l.text.now n xs zs × (((agrees n s ≡ false) × (e ≡ UnlikeRow l.number)) ⊎ ((agrees n s ≡ true) × GridFault f ls (grown n s) zs e)))
 
 abbrev pub none : Size
 none = record { width = 0; height = 0 }
@@ -64,7 +65,7 @@ abbrev pub takes : Size → Bool
 takes s = fits s.width && fits s.height
 
 -- the sheet of the lines, where the filters take its size
-abbrev pub SheetRead : {T E : Type 0} → (List ℕ → Result T E → Type 0) → List (ℕ × List ℕ) → Result (Size × Vec T Global) SheetFault → Type 0
+abbrev pub SheetRead : {T E : Type 0} → (List ℕ → Result T E → Type 0) → List Line → Result (Size × Vec T Global) SheetFault → Type 0
 SheetRead f ls (Ok p) = Grid f ls none [] p.0 (vec_items p.1) × (takes p.0 ≡ true)
 SheetRead {T} {E} f ls (Err e) = GridFault f ls none [] e
     ⊎ ((s : Size) × (cs : List T) × Grid f ls none [] s cs × (takes s ≡ false) × (e ≡ WrongSize (record { 0 = s })))

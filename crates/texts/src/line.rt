@@ -1,7 +1,8 @@
-// A line of a job.
+// The lines of a job, each with its number.
 ghost use Rattle.std.specs.Prelude.{◌≡◌, map, IfOk, string_bytes};
-ghost use Rattle.texts.specs.Lines.{shown, drawn_from};
+ghost use Rattle.texts.specs.Lines.{told, numbered_from, shown, lines_before, drawn_from};
 ghost use Rattle.texts.specs.Settings.{IsAlone};
+ghost use Rattle.texts.specs.Views.{drawn_in};
 
 use crate::view::Lines;
 use std::alloc::{AllocError, Global};
@@ -14,9 +15,46 @@ pub struct Line<'a> {
     pub text: &'a str,
 }
 
-// The lines, with a blank one for each line before them, so that what is drawn in them is told by the lines of the job.
-pub fn drawn_lines(alloc: Global, lines: Lines) -> Result<Vec<String>, AllocError>
-    ensures { IfOk result (λ v. map string_bytes v.items ≡ drawn_from (shown lines.entry)) }
+// The lines of a job, listed.
+pub fn numbered<'a>(alloc: Global, lines: &'a [String]) -> Result<Vec<Line<'a>>, AllocError>
+    ensures { IfOk result (λ v. map told v.items ≡ numbered_from 1 (map string_bytes lines.now)) }
+{
+    let view = Lines::of(lines);
+    let mut numbered = Vec::new(alloc);
+    // By number, since lines are a view of their texts.
+    for i in 0..view.len() {
+        numbered.push(view.at(i))?;
+    }
+    Ok(numbered)
+}
+
+// The lines, with a blank one for each line before the first, so that what is drawn in lines that follow each other is told by
+// the lines of the job.
+pub fn drawn_lines(alloc: Global, lines: &[Line]) -> Result<Vec<String>, AllocError>
+    ensures { IfOk result (λ v. map string_bytes v.items ≡ drawn_from lines.now) }
+{
+    let mut drawn = Vec::new(alloc);
+    for _before in 0..lines_before(lines) {
+        drawn.push(String::new(alloc))?;
+    }
+    for line in lines {
+        drawn.push(String::from_str(alloc, line.text)?)?;
+    }
+    Ok(drawn)
+}
+
+// How many lines of the job stand before these.
+fn lines_before(lines: &[Line]) -> usize
+    ensures { result ≡ lines_before lines.now }
+{
+    lines
+        .first()
+        .map_or(0, |line| line.number.saturating_sub(1))
+}
+
+// The same of the lines that a view shows; they follow each other.
+pub fn drawn_lines_in(alloc: Global, lines: Lines) -> Result<Vec<String>, AllocError>
+    ensures { IfOk result (λ v. map string_bytes v.items ≡ drawn_in (shown lines.entry)) }
 {
     let mut drawn = Vec::new(alloc);
     for _before in 0..lines.before() {

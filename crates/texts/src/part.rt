@@ -1,7 +1,8 @@
 // The parts of a job, each begun by a line.
 ghost use Rattle.std.specs.Prelude.{◌≡◌, MatchOption, MatchResult, Some};
 ghost use Rattle.texts.specs.Lines.{told, shown};
-ghost use Rattle.texts.specs.Parts.{word_of, missing_text, Begins, Lacks, LacksText, IsFirst, Cuts};
+ghost use Rattle.texts.specs.Parts.{word_of, missing_text, Begins, Lacks, IsFirst, Cuts, IsBegunBy, LacksText};
+ghost use Rattle.texts.specs.Views.{LacksIn, CutsIn, IsFirstText};
 
 use crate::line::Line;
 use crate::view::Lines;
@@ -35,6 +36,19 @@ impl<'w> Part<'w> {
         ensures { Begins self.entry line.now result }
     {
         let mut words = line.split_whitespace();
+        let first = words.next();
+        let second = words.next();
+        match self {
+            Part::Heading(word) => first == Some(word) && second.is_none(),
+            Part::Setting(word) => first == Some(word),
+        }
+    }
+
+    // The same, by no more words than tell it: a second one is looked at behind the word of a heading alone.
+    pub fn is_begun_by(self, line: &str) -> bool
+        ensures { IsBegunBy self.entry line.now result }
+    {
+        let mut words = line.split_whitespace();
         match self {
             Part::Heading(word) => words.next() == Some(word) && words.next().is_none(),
             Part::Setting(word) => words.next() == Some(word),
@@ -42,11 +56,32 @@ impl<'w> Part<'w> {
     }
 
     // The lines before the first that begins the part, that line, and those behind it.
-    pub fn cut<'a>(self, lines: Lines<'a>) -> Result<(Lines<'a>, Line<'a>, Lines<'a>), Missing<'w>>
-        ensures { MatchResult result (λ p. Cuts self.entry (shown lines.entry) (shown p.0) (told p.1) (shown p.2)) (λ e. (e ≡ record { 0 = self.entry }) × Lacks self.entry (shown lines.entry)) }
+    pub fn cut<'a, 'b>(
+        self,
+        lines: &'b [Line<'a>],
+    ) -> Result<(&'b [Line<'a>], Line<'a>, &'b [Line<'a>]), Missing<'w>>
+        ensures { MatchResult result (λ p. Cuts self.entry lines.now p.0.now p.1 p.2.now) (λ e. (e ≡ record { 0 = self.entry }) × Lacks self.entry lines.now) }
+    {
+        let at = self.place(lines).ok_or(Missing(self))?;
+        Ok((&lines[..at], lines[at], &lines[at + 1..]))
+    }
+
+    // The place of the first line that begins the part.
+    fn place(self, lines: &[Line]) -> Option<usize>
+        ensures { MatchOption result (Lacks self.entry lines.now) (IsFirst self.entry lines.now) }
+    {
+        lines.iter().position(|line| self.begins(line.text))
+    }
+
+    // The lines of a view before the first that begins the part, that line, and those behind it.
+    pub fn cut_in<'a>(
+        self,
+        lines: Lines<'a>,
+    ) -> Result<(Lines<'a>, Line<'a>, Lines<'a>), Missing<'w>>
+        ensures { MatchResult result (λ p. CutsIn self.entry (shown lines.entry) (shown p.0) (told p.1) (shown p.2)) (λ e. (e ≡ record { 0 = self.entry }) × LacksIn self.entry (shown lines.entry)) }
     {
         let texts = lines.texts;
-        let at = self.place(texts).ok_or(Missing(self))?;
+        let at = self.place_in(texts).ok_or(Missing(self))?;
         let before = Lines {
             first: lines.first,
             texts: &texts[..at],
@@ -62,11 +97,13 @@ impl<'w> Part<'w> {
         Ok((before, line, behind))
     }
 
-    // The place of the first line that begins the part.
-    fn place(self, texts: &[String]) -> Option<usize>
-        ensures { MatchOption result (LacksText self.entry texts.now) (IsFirst self.entry texts.now) }
+    // The place of the first text that begins the part.
+    fn place_in(self, texts: &[String]) -> Option<usize>
+        ensures { MatchOption result (LacksText self.entry texts.now) (IsFirstText self.entry texts.now) }
     {
-        texts.iter().position(|text| self.begins(text.as_str()))
+        texts
+            .iter()
+            .position(|text| self.is_begun_by(text.as_str()))
     }
 }
 

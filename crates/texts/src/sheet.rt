@@ -1,8 +1,9 @@
 // The sheet of a job.
 ghost use Rattle.std.specs.Prelude.{◌≡◌, ◌≤◌, ◌<◌, ◌^◌, IfOk, IfErr, Some, None};
 ghost use Rattle.texts.specs.Faults.{sheet_text};
-ghost use Rattle.texts.specs.Lines.{told, shown};
+ghost use Rattle.texts.specs.Lines.{shown};
 ghost use Rattle.texts.specs.Sheets.{IsRow, RowFault, agrees, grown, none, Grid, GridFault, SheetRead};
+ghost use Rattle.texts.specs.Views.{GridIn, GridFaultIn, SheetReadIn};
 
 use crate::line::Line;
 use crate::size::{WrongSize, sized};
@@ -75,13 +76,47 @@ impl<T: Drop> From<AllocFailed<T>> for SheetFault {
 // Takes in a sheet: its size, within what the filters take, and its numbers row by row.
 pub fn read_sheet<T: FromStr + Drop>(
     alloc: Global,
+    lines: &[Line],
+) -> Result<(Size, Vec<T>), SheetFault>
+where
+    T::Err: Drop,
+    ensures width { IfOk result (λ p. (1 ≤ p.0.width) × (p.0.width ≤ 2048)) }
+    ensures height { IfOk result (λ p. (1 ≤ p.0.height) × (p.0.height ≤ 2048)) }
+    ensures read { SheetRead T.FromStr.from_str_gives lines.now result }
+{
+    let mut cells = Vec::new(alloc);
+    let size = sized(read_listed(lines, &mut cells)?)?;
+    Ok((size, cells))
+}
+
+// Takes in the rows of a sheet and answers its size. A blank line is no row.
+fn read_listed<T: FromStr + Drop>(lines: &[Line], cells: &mut Vec<T>) -> Result<Size, SheetFault>
+where
+    T::Err: Drop,
+    ensures rows { IfOk result (λ s. Grid T.FromStr.from_str_gives lines.now none cells.old.items s cells.new.items) }
+    ensures fault { IfErr result (λ e. GridFault T.FromStr.from_str_gives lines.now none cells.old.items e) }
+{
+    let mut size = Size::NONE;
+    for line in lines {
+        let n = read_row(*line, cells)?;
+        if !agrees(n, size) {
+            return Err(SheetFault::UnlikeRow(line.number));
+        }
+        size = grown(n, size);
+    }
+    Ok(size)
+}
+
+// Takes in a sheet from the lines that a view shows, likewise.
+pub fn read_sheet_in<T: FromStr + Drop>(
+    alloc: Global,
     lines: Lines,
 ) -> Result<(Size, Vec<T>), SheetFault>
 where
     T::Err: Drop,
     ensures width { IfOk result (λ p. (1 ≤ p.0.width) × (p.0.width ≤ 2048)) }
     ensures height { IfOk result (λ p. (1 ≤ p.0.height) × (p.0.height ≤ 2048)) }
-    ensures read { SheetRead T.FromStr.from_str_gives (shown lines.entry) result }
+    ensures read { SheetReadIn T.FromStr.from_str_gives (shown lines.entry) result }
 {
     let mut cells = Vec::new(alloc);
     let size = sized(read_rows(lines, &mut cells)?)?;
@@ -93,8 +128,8 @@ where
 pub fn read_rows<T: FromStr + Drop>(lines: Lines, cells: &mut Vec<T>) -> Result<Size, SheetFault>
 where
     T::Err: Drop,
-    ensures rows { IfOk result (λ s. Grid T.FromStr.from_str_gives (shown lines.entry) none cells.old.items s cells.new.items) }
-    ensures fault { IfErr result (λ e. GridFault T.FromStr.from_str_gives (shown lines.entry) none cells.old.items e) }
+    ensures rows { IfOk result (λ s. GridIn T.FromStr.from_str_gives (shown lines.entry) none cells.old.items s cells.new.items) }
+    ensures fault { IfErr result (λ e. GridFaultIn T.FromStr.from_str_gives (shown lines.entry) none cells.old.items e) }
 {
     let mut size = Size::NONE;
     // By number: lines are a view of their texts, and no list of them is kept.
@@ -136,7 +171,7 @@ fn read_row<T: FromStr + Drop>(line: Line, cells: &mut Vec<T>) -> Result<usize, 
 where
     T::Err: Drop,
     ensures row { IfOk result (λ n. IsRow T.FromStr.from_str_gives line.entry.text.now n cells.old.items cells.new.items) }
-    ensures fault { IfErr result (RowFault T.FromStr.from_str_gives (told line.entry)) }
+    ensures fault { IfErr result (RowFault T.FromStr.from_str_gives line.entry) }
 {
     let before = cells.len();
     for word in line.text.split_whitespace() {

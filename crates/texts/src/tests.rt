@@ -2,14 +2,16 @@
 use crate::ending::ended;
 use crate::fault::{JobFault, ToldJobFault, Words};
 use crate::input::InputFault;
-use crate::line::Line;
+use crate::line::{Line, drawn_lines, numbered};
+use crate::mask::read_mask;
 use crate::part::{Missing, Part};
-use crate::sheet::{SheetFault, read_rows};
+use crate::sheet::{SheetFault, read_rows, read_sheet};
 use crate::size::WrongSize;
 use crate::view::Lines;
 use drawings::drawing::{DrawingFault, Place};
 use drawings::drawn::DrawnFault;
 use masks::fault::MaskFault;
+use masks::point::Point;
 use sheets::holder::Size;
 use std::alloc::{AllocError, Global};
 use std::cell::RefCell;
@@ -242,15 +244,109 @@ fn lines_around_a_part_keep_their_numbers(rt: HostRuntime) -> Result<(), Fail> {
     let word = String::from_str(rt.alloc(), "a")?;
     let part = Part::Heading(word.as_str());
     let lines = Lines::of(texts.as_slice());
-    let Ok((before, line, behind)) = part.cut(lines) else {
+    let Ok((before, line, behind)) = part.cut_in(lines) else {
         assert!(rt; false);
         return Ok(());
     };
     assert_eq!(rt; (before.len(), line.number, behind.len()), (1, 2, 1));
     assert_eq!(rt; behind.get(0).map(|l| (l.number, l.text)), Some((3, "c")));
     assert!(rt; behind.get(1).is_none());
-    let missing = part.cut(behind).map(|_| ());
+    let missing = part.cut_in(behind).map(|_| ());
     assert_eq!(rt; missing, Err(Missing(part)));
+    Ok(())
+}
+
+// Whether a line begins a part is told by the words that are there, and by no more of them than tell it.
+#[test]
+fn a_heading_stands_alone_and_a_setting_first(rt: HostRuntime) {
+    let heading = Part::Heading("a");
+    let setting = Part::Setting("a");
+    let lines = [
+        ("a", true, true),
+        ("  a ", true, true),
+        ("a b", false, true),
+        ("b a", false, false),
+        ("ab", false, false),
+        ("", false, false),
+    ];
+    for (line, alone, first) in lines {
+        assert_eq!(rt; heading.begins(line), alone);
+        assert_eq!(rt; setting.begins(line), first);
+        assert_eq!(rt; heading.is_begun_by(line), alone);
+        assert_eq!(rt; setting.is_begun_by(line), first);
+    }
+}
+
+// The lines of a job can be listed: its parts are cut off, and its sheet and its mask are read.
+#[test]
+fn listed_lines_are_read(rt: HostRuntime) -> Result<(), Fail> {
+    let texts = lines_of(rt.alloc(), "a sheet\n sheet\n7 8\n\n-9 10\nmask\n@#\n")?;
+    let lines = numbered(rt.alloc(), texts.as_slice())?;
+    let sheet = Part::Heading("sheet");
+    let mask = Part::Heading("mask");
+    let Ok((before, line, rest)) = sheet.cut(lines.as_slice()) else {
+        assert!(rt; false);
+        return Ok(());
+    };
+    assert_eq!(rt; (before.len(), line.number, rest.len()), (1, 2, 5));
+    let Ok((rows, line, drawn)) = mask.cut(rest) else {
+        assert!(rt; false);
+        return Ok(());
+    };
+    assert_eq!(rt; (rows.len(), line.number, drawn.len()), (3, 6, 1));
+    assert_eq!(rt; sheet.cut(drawn).map(|_| ()), Err(Missing(sheet)));
+    let Ok((size, cells)) = read_sheet::<i32>(rt.alloc(), rows) else {
+        assert!(rt; false);
+        return Ok(());
+    };
+    assert_eq!(rt; (size.width, size.height), (2, 2));
+    assert_eq!(rt; cells.as_slice(), [7, 8, -9, 10].as_slice());
+    let Ok(mask) = read_mask(rt.alloc(), drawn) else {
+        assert!(rt; false);
+        return Ok(());
+    };
+    assert_eq!(rt; mask.count(), 2);
+    assert!(rt; mask.holds(Point { u: 1, v: 0 }));
+    Ok(())
+}
+
+// What is wrong with the rows of listed lines is told by their own numbers, which need not follow each other; what is wrong with
+// a drawing, by the lines from the first on.
+#[test]
+fn listed_lines_are_told_by_their_numbers(rt: HostRuntime) -> Result<(), Fail> {
+    let two = Line {
+        number: 4,
+        text: "1 2",
+    };
+    let one = Line {
+        number: 7,
+        text: "3",
+    };
+    let other = Line {
+        number: 9,
+        text: "5 x",
+    };
+    let unlike = read_sheet::<i32>(rt.alloc(), &[two, one]).map(|_| ());
+    assert_eq!(rt; unlike, Err(SheetFault::UnlikeRow(7)));
+    let no_cell = read_sheet::<i32>(rt.alloc(), &[two, other]).map(|_| ());
+    assert_eq!(rt; no_cell, Err(SheetFault::NoCell(9)));
+    let drawn = drawn_lines(rt.alloc(), &[two, other])?;
+    assert_eq!(rt; drawn.len(), 5);
+    assert_eq!(rt; drawn[2].as_str(), "");
+    assert_eq!(rt; drawn[3].as_str(), "1 2");
+    assert_eq!(rt; drawn[4].as_str(), "5 x");
+    let undrawn = read_mask(rt.alloc(), &[two]).map(|_| ());
+    let place = Place { line: 4, column: 1 };
+    let fault = DrawnFault::Unread(DrawingFault::OtherCharacter(place));
+    assert_eq!(rt; undrawn, Err(JobFault::Drawn(fault)));
+    let origin = Line {
+        number: 4,
+        text: "@",
+    };
+    let undrawn = read_mask(rt.alloc(), &[origin, other]).map(|_| ());
+    let place = Place { line: 5, column: 1 };
+    let fault = DrawnFault::Unread(DrawingFault::OtherCharacter(place));
+    assert_eq!(rt; undrawn, Err(JobFault::Drawn(fault)));
     Ok(())
 }
 

@@ -12,7 +12,8 @@ pub struct Lines<'a> {
 }
 
 impl<'a> Lines<'a> {
-    ghost use Rattle.texts.specs.Lines.{told, numbered_from, shown, lines_before};
+    ghost use Rattle.texts.specs.Lines.{told, numbered_from, shown};
+    ghost use Rattle.texts.specs.Views.{before_in};
 
     // All lines of a job.
     pub fn of(texts: &'a [String]) -> Lines<'a>
@@ -74,7 +75,7 @@ impl<'a> Lines<'a> {
 
     // How many lines of the job stand before them.
     pub(crate) fn before(self) -> usize
-        ensures { result ≡ lines_before (shown self.entry) }
+        ensures { result ≡ before_in (shown self.entry) }
     {
         if self.texts.is_empty() {
             0

@@ -1,11 +1,11 @@
-use Rattle.std.proofs.Common.{◌≡◌, [], ◌++◌, map, replicate, drop, string_bytes}
-use Rattle.texts.specs.Lines.{shown, drawn_from}
+use Rattle.std.proofs.Common.{◌≡◌, [], ◌++◌, map, replicate, take, string_bytes}
+use Rattle.texts.specs.Lines.{lines_before}
 use Rattle.texts.proofs.line.drawn_lines.Given as goal
 
 -- a blank line for each turn
 abbrev pub invariant-loop-before : goal.invariant-loop-before
 invariant-loop-before l = map string_bytes l.drawn.items ≡ replicate l._before []
 
--- and then what is left of the lines leads to the same end
-abbrev pub invariant-loop-i : goal.invariant-loop-i
-invariant-loop-i l = map string_bytes l.drawn.items ++ map (λ p. p.1) (drop l.i (shown l.lines)) ≡ drawn_from (shown l.lines)
+-- and then the lines passed
+abbrev pub invariant-loop-line : goal.invariant-loop-line
+invariant-loop-line l = map string_bytes l.drawn.items ≡ replicate (lines_before l.lines) [] ++ map (λ p. p.text.now) (take l.line-index l.lines)

@@ -2,7 +2,8 @@
 use Rattle.std.proofs.Common.{◌≤◌, List, drop}
 use Rattle.sheets.specs.declared.holder.Size.{Size}
 use Rattle.texts.specs.Lines.{shown}
-use Rattle.texts.specs.Sheets.{none, Grid, GridFault}
+use Rattle.texts.specs.Views.{GridIn, GridFaultIn}
+use Rattle.texts.specs.Sheets.{none}
 use Rattle.texts.specs.declared.sheet.SheetFault.{SheetFault}
 use Rattle.texts.proofs.sheet.read_rows.Given as goal
 
@@ -10,5 +11,5 @@ abbrev pub invariant-loop-i : goal.invariant-loop-i
 invariant-loop-i g l =
     let f = g.T.FromStr.from_str_gives in
     (l.size.height ≤ l.i)
-    × ((t : Size) (ys : List g.row.T.Denot) → Grid f (drop l.i (shown l.lines)) l.size l.cells.items t ys → Grid f (shown l.lines) none l.initial.cells.items t ys)
-    × ((e : SheetFault) → GridFault f (drop l.i (shown l.lines)) l.size l.cells.items e → GridFault f (shown l.lines) none l.initial.cells.items e)
+    × ((t : Size) (ys : List g.row.T.Denot) → GridIn f (drop l.i (shown l.lines)) l.size l.cells.items t ys → GridIn f (shown l.lines) none l.initial.cells.items t ys)
+    × ((e : SheetFault) → GridFaultIn f (drop l.i (shown l.lines)) l.size l.cells.items e → GridFaultIn f (shown l.lines) none l.initial.cells.items e)

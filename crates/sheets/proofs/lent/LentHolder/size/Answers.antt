@@ -1,5 +1,5 @@
 -- where each place has its index within the room, it has a cell
-use Rattle.sheets.proofs.Wholes.{held_whole}
+use Rattle.sheets.specs.Wholes.{held_whole}
 use Rattle.sheets.proofs.lent.LentHolder.size.Goals as goal
 
 pub returns-clause-whole : goal.returns-clause-whole

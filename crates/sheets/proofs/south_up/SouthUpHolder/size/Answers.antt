@@ -1,5 +1,5 @@
 -- a whole sheet, turned over, is whole
-use Rattle.sheets.proofs.Wholes.{flipped_whole}
+use Rattle.sheets.specs.Wholes.{flipped_whole}
 use Rattle.sheets.proofs.south_up.SouthUpHolder.size.Goals as goal
 
 pub returns-clause-whole : goal.returns-clause-whole

@@ -1,5 +1,5 @@
 -- a part of a whole sheet is whole
-use Rattle.sheets.proofs.Wholes.{part_whole}
+use Rattle.sheets.specs.Wholes.{part_whole}
 use Rattle.sheets.proofs.window.WindowHolder.size.Goals as goal
 
 pub returns-clause-whole : goal.returns-clause-whole

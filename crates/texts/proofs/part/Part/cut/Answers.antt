@@ -1,14 +1,6 @@
 -- The place is that of the first line which begins the part.
-use Rattle.std.proofs.Common.{rules, ap, ◌∙◌, string_bytes}
-use Rattle.texts.proofs.Cuts.{cuts_at, lacks}
+use Rattle.texts.proofs.Cuts.{cuts_at}
 use Rattle.texts.proofs.part.Part.cut.Goals as goal
 
-pub returns-in_err-at : goal.returns-in_err-at
-returns-in_err-at c =
-    let none = lacks c.args.self c.args.lines.first c.args.lines.texts.now (rw c.in_err-at.ensures.ok_part at c.place.ensures) in
-    search (rules, none)
-
 pub returns : goal.returns
-returns c =
-    let text = c.as_str.ensures.value ∙ ap string_bytes c.index-texts-at.is in
-    cuts_at c.args.self c.args.lines.first c.args.lines.texts.now c.in_ok-at.at c.index-texts-at.result c.as_str.result.now text (rw c.in_ok-at.ensures.ok_part at c.place.ensures)
+returns c = cuts_at c.args.self c.args.lines.now c.in_ok-at.at _ (rw c.in_ok-at.ensures.ok_part at c.place.ensures)
