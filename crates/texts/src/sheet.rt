@@ -1,5 +1,5 @@
 // The sheet of a job.
-ghost use Rattle.std.specs.Prelude.{◌≡◌, ◌≤◌, ◌<◌, ◌^◌, IfOk, IfErr, Some, None};
+ghost use Rattle.std.specs.Prelude.{◌≡◌, ◌≤◌, ◌<◌, ◌^◌, IfOk, IfErr, Some, None, length, take};
 ghost use Rattle.texts.specs.Faults.{sheet_text};
 ghost use Rattle.texts.specs.Lines.{shown};
 ghost use Rattle.texts.specs.Sheets.{IsRow, RowFault, agrees, grown, none, Grid, GridFault, SheetRead};
@@ -124,12 +124,13 @@ where
 }
 
 // Takes in the rows of a sheet, behind the cells that are there, and answers its size, which is 0 by 0 where there is no row.
-// A blank line is no row.
+// A blank line is no row. What is there stays, also where a row is refused.
 pub fn read_rows<T: FromStr + Drop>(lines: Lines, cells: &mut Vec<T>) -> Result<Size, SheetFault>
 where
     T::Err: Drop,
     ensures rows { IfOk result (λ s. GridIn T.FromStr.from_str_gives (shown lines.entry) none cells.old.items s cells.new.items) }
     ensures fault { IfErr result (λ e. GridFaultIn T.FromStr.from_str_gives (shown lines.entry) none cells.old.items e) }
+    ensures kept { take (length cells.old.items) cells.new.items ≡ cells.old.items }
 {
     let mut size = Size::NONE;
     // By number: lines are a view of their texts, and no list of them is kept.
@@ -172,6 +173,7 @@ where
     T::Err: Drop,
     ensures row { IfOk result (λ n. IsRow T.FromStr.from_str_gives line.entry.text.now n cells.old.items cells.new.items) }
     ensures fault { IfErr result (RowFault T.FromStr.from_str_gives line.entry) }
+    ensures kept { take (length cells.old.items) cells.new.items ≡ cells.old.items }
 {
     let before = cells.len();
     for word in line.text.split_whitespace() {

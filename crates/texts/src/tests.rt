@@ -237,6 +237,25 @@ fn rows_are_read_behind_what_is_there(rt: HostRuntime) -> Result<(), Fail> {
     Ok(())
 }
 
+// The cells that are there stay, whatever is wrong with the rows.
+#[test]
+fn cells_stay_where_rows_are_refused(rt: HostRuntime) -> Result<(), Fail> {
+    let table = [
+        ("7\n8 x\n", SheetFault::NoCell(2)),
+        ("7\n8 9\n", SheetFault::UnlikeRow(2)),
+    ];
+    for (text, wanted) in table {
+        let texts = lines_of(rt.alloc(), text)?;
+        let mut cells: Vec<i32> = Vec::new(rt.alloc());
+        cells.push(1)?;
+        cells.push(2)?;
+        let refused = read_rows(Lines::of(texts.as_slice()), &mut cells);
+        assert_eq!(rt; refused, Err(wanted));
+        assert_eq!(rt; &cells.as_slice()[..2], [1, 2].as_slice());
+    }
+    Ok(())
+}
+
 // A part may have any word, and the lines around it keep their numbers.
 #[test]
 fn lines_around_a_part_keep_their_numbers(rt: HostRuntime) -> Result<(), Fail> {

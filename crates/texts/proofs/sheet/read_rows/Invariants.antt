@@ -1,5 +1,5 @@
--- What is left of the lines leads to the same end, and the sheet has no more rows than lines were passed.
-use Rattle.std.proofs.Common.{◌≤◌, List, drop}
+-- What is left of the lines leads to the same end, the sheet has no more rows than lines were passed, and the cells that were there stay.
+use Rattle.std.proofs.Common.{◌≡◌, ◌≤◌, List, length, take, drop}
 use Rattle.sheets.specs.declared.holder.Size.{Size}
 use Rattle.texts.specs.Lines.{shown}
 use Rattle.texts.specs.Views.{GridIn, GridFaultIn}
@@ -13,3 +13,4 @@ invariant-loop-i g l =
     (l.size.height ≤ l.i)
     × ((t : Size) (ys : List g.row.T.Denot) → GridIn f (drop l.i (shown l.lines)) l.size l.cells.items t ys → GridIn f (shown l.lines) none l.initial.cells.items t ys)
     × ((e : SheetFault) → GridFaultIn f (drop l.i (shown l.lines)) l.size l.cells.items e → GridFaultIn f (shown l.lines) none l.initial.cells.items e)
+    × (take (length l.initial.cells.items) l.cells.items ≡ l.initial.cells.items)
